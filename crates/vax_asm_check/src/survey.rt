@@ -1,7 +1,6 @@
 // The faults of statements one after another.
 
 ghost use Rattle.std.specs.Prelude.{◌≡◌, ◌++◌, ◌∷◌, [], IfOk, OnOk, false, if◌then◌else◌, map, option_map};
-ghost use Rattle.std.specs.List.{cons_option};
 ghost use Rattle.vax_asm.specs.Walk.{nothing};
 ghost use Rattle.vax_asm_check.specs.Listed.{AreAll};
 ghost use Rattle.vax_asm_check.specs.Restating.{resumed};
@@ -15,6 +14,7 @@ ghost use Rattle.vax_macro.specs.View.{opening_of};
 use crate::circles::circle_fault;
 use crate::left::{Left, Stated, copied, restated};
 use crate::sorting::sort;
+use crate::told::Told;
 use std::alloc::Global;
 use vax_asm::{FaultKind, Placed, place};
 use vax_asm_first::Origin;
@@ -30,7 +30,7 @@ pub(crate) struct Survey {
     pub(crate) dialect: Dialect,
     pub(crate) left: Left,
     pub(crate) stood: Vec<Stated>,
-    pub(crate) faults: Vec<Fault>,
+    pub(crate) faults: Told,
     pub(crate) ended: Option<u32>,
 }
 
@@ -44,26 +44,15 @@ fn is_ended(ended: Option<u32>, place: u32) -> bool
     }
 }
 
-/// Adds a fault, if there is one.
-fn add(list: &mut Vec<Fault>, fault: Option<Fault>) -> Result<(), NoMemory>
-    ensures { OnOk result (list.new.items ≡ list.old.items ++ cons_option fault []) }
-{
-    let Some(fault) = fault else {
-        return Ok(());
-    };
-    list.push(fault).map_err(|_| NoMemory)?;
-    Ok(())
-}
-
 /// Adds a fault, unless its line has ended.
-fn add_unless(list: &mut Vec<Fault>, ended: Option<u32>, fault: Fault) -> Result<(), NoMemory>
-    ensures { OnOk result (list.new.items
-        ≡ list.old.items ++ (if is_ended ended fault.origin.place then [] else fault ∷ [])) }
+fn add_unless(told: &mut Told, ended: Option<u32>, fault: Fault) -> Result<(), NoMemory>
+    ensures { OnOk result (told.new.list.items ≡ told.old.list.items
+        ++ (if is_ended ended fault.origin.place then [] else fault ∷ [])) }
 {
     if is_ended(ended, fault.origin.place) {
         return Ok(());
     }
-    add(list, Some(fault))
+    told.add(Some(fault))
 }
 
 /// Adds a statement that stands.
@@ -79,7 +68,7 @@ impl Survey {
         ensures dialect { IfOk result (λ s. s.dialect ≡ dialect) }
         ensures left { IfOk result (λ s. left_of s.left ≡ nothing dialect) }
         ensures stood { IfOk result (λ s. s.stood.items ≡ []) }
-        ensures faults { IfOk result (λ s. s.faults.items ≡ []) }
+        ensures faults { IfOk result (λ s. s.faults.list.items ≡ []) }
         ensures ended { IfOk result (λ s. s.ended ≡ None) }
     {
         let left = Left::new(alloc, dialect)?;
@@ -87,7 +76,7 @@ impl Survey {
             dialect,
             left,
             stood: Vec::new(alloc),
-            faults: Vec::new(alloc),
+            faults: Told::new(alloc),
             ended: None,
         })
     }
@@ -112,20 +101,20 @@ impl Survey {
         match placed {
             Placed::Stands => {
                 let circle = circle_fault(alloc, &self.left.assignments, before)?;
-                add(&mut self.faults, circle)?;
+                self.faults.add(circle)?;
                 keep(&mut self.stood, Stated { origin, line })?;
                 self.ended = None;
                 Ok(())
             }
             Placed::FaultyLabel(kind) => {
-                add(&mut self.faults, Some(Fault { origin, kind }))?;
+                self.faults.add(Some(Fault { origin, kind }))?;
                 self.ended = None;
                 Ok(())
             }
             Placed::Faulty(kind) => {
                 let circle = circle_fault(alloc, &self.left.assignments, before)?;
-                add(&mut self.faults, Some(Fault { origin, kind }))?;
-                add(&mut self.faults, circle)?;
+                self.faults.add(Some(Fault { origin, kind }))?;
+                self.faults.add(circle)?;
                 self.left = restated(alloc, self.dialect, &self.stood)?;
                 self.ended = Some(origin.place);
                 Ok(())
@@ -153,7 +142,7 @@ impl Survey {
     /// All faults, once the source is read to its end: those of the lines, and then those that the whole source decides, by
     /// their lines.
     pub(crate) fn end(self, alloc: Global, begin: Option<Begin>) -> Result<Vec<Fault>, NoMemory>
-        ensures { IfOk result (λ v. AreAll v.items (faults_in (with_faults self.faults.items
+        ensures { IfOk result (λ v. AreAll v.items (faults_in (with_faults self.faults.list.items
             (resumed (AtEnd (option_map opening_of begin)) (left_of self.left) self.ended)))) }
     {
         let Survey { left, faults, .. } = self;
@@ -161,7 +150,7 @@ impl Survey {
             standing,
             assignments,
         } = left;
-        let mut faults = faults;
+        let mut faults = faults.into_list();
         let mut more = all_faults(alloc, standing, &assignments, begin)?;
         sort(&mut more)?;
         faults.extend_from_slice(&more).map_err(|_| NoMemory)?;
@@ -178,7 +167,7 @@ impl Survey {
     ) -> Result<Vec<Fault>, NoMemory>
         ensures { (o : Opened) →
             FaultIs (unclosed_of expander.now) (read_of expander.now) line kind o →
-            IfOk result (λ v. AreAll v.items (faults_in (with_faults self.faults.items
+            IfOk result (λ v. AreAll v.items (faults_in (with_faults self.faults.list.items
             (resumed o (left_of self.left) self.ended)))) }
     {
         match expander.open_begin() {
@@ -194,13 +183,12 @@ impl Survey {
     }
 
     /// All faults, where the source ends with one here.
-    #[tactic(auto, using(crate::proofs::Surveying::stopped_all))]
     fn stop_at(self, origin: Origin, kind: FaultKind) -> Result<Vec<Fault>, NoMemory>
-        ensures { IfOk result (λ v. AreAll v.items (faults_in (with_faults self.faults.items
+        ensures { IfOk result (λ v. AreAll v.items (faults_in (with_faults self.faults.list.items
             (resumed (Faulty origin.line origin.place kind) (left_of self.left) self.ended)))) }
     {
         let mut faults = self.faults;
         add_unless(&mut faults, self.ended, Fault { origin, kind })?;
-        Ok(faults)
+        Ok(faults.into_list())
     }
 }

@@ -1,10 +1,11 @@
 // A source from its first statement to its last.
 
-ghost use Rattle.std.specs.Prelude.{IfOk};
-ghost use Rattle.vax_asm_check.specs.Listed.{AreFirst};
-ghost use Rattle.vax_asm_faults.specs.Refusal.{faults_of};
+ghost use Rattle.std.specs.Prelude.{◌≡◌, IfOk, true};
+ghost use Rattle.vax_asm_check.specs.Listed.{AreAll, AreFound};
+ghost use Rattle.vax_asm_faults.specs.Refusal.{Faults, faults_of};
 
 use crate::survey::Survey;
+use crate::told::Limits;
 use std::alloc::Global;
 use vax_asm_first::Origin;
 use vax_asm_scope::KnownNames;
@@ -13,8 +14,30 @@ use vax_dialect::Dialect;
 use vax_macro::{Expander, MacroError};
 use vax_space::NoMemory;
 
+/// The faults of a source that were found, and whether they are all of them; else they are the first of those that lines
+/// have by themselves.
+#[derive(Drop)]
+pub struct Found {
+    pub faults: Vec<Fault>,
+    pub are_all: bool,
+}
+
+/// All faults, where they were found.
+fn whole(found: Result<Vec<Fault>, NoMemory>) -> Result<Found, NoMemory>
+    ensures { (all : Faults) → IfOk found (λ v. AreAll v.items all) →
+        IfOk result (λ f. (f.are_all ≡ true) × AreAll f.faults.items all) }
+{
+    match found {
+        Ok(faults) => Ok(Found {
+            faults,
+            are_all: true,
+        }),
+        Err(NoMemory) => Err(NoMemory),
+    }
+}
+
 /// The faults of a source in a dialect of MACRO-32: those that lines have by themselves, line by line, and then those that
-/// the whole of it decides, by their lines. Once so many were found the rest of it isn't read.
+/// the whole of it decides, by their lines. Once the limits are reached the rest of it isn't read.
 ///
 /// Behind each fault the statements before it are carried out once more. So it takes the time of an assembly for each
 /// fault, and with the square of the assignments that have no value where they stand.
@@ -26,15 +49,19 @@ pub fn faults(
     alloc: Global,
     dialect: Dialect,
     source: &[u8],
-    most: usize,
-) -> Result<Vec<Fault>, NoMemory>
-    ensures { IfOk result (λ v. AreFirst most v.items (faults_of dialect source.now)) }
+    limits: Limits,
+) -> Result<Found, NoMemory>
+    ensures { IfOk result
+        (λ f. AreFound f.are_all limits f.faults.items (faults_of dialect source.now)) }
 {
     let mut expander = Expander::new(alloc, dialect, source)?;
     let mut survey = Survey::new(alloc, dialect)?;
     'statements: loop {
-        if survey.faults.len() >= most {
-            return Ok(survey.faults);
+        if survey.faults.reach(limits) {
+            return Ok(Found {
+                faults: survey.faults.into_list(),
+                are_all: false,
+            });
         }
         let here = survey.left.standing.here()?;
         let names = KnownNames {
@@ -50,9 +77,9 @@ pub fn faults(
                 };
                 survey.state(alloc, origin, said)?;
             }
-            Ok(None) => return survey.end(alloc, None),
+            Ok(None) => return whole(survey.end(alloc, None)),
             Err(MacroError::Fault { line, kind }) => {
-                return survey.stop(alloc, &expander, line, kind);
+                return whole(survey.stop(alloc, &expander, line, kind));
             }
             Err(MacroError::NoMemory) => return Err(NoMemory),
         }

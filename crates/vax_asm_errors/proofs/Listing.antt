@@ -1,10 +1,10 @@
 -- Errors, one more at a time.
-use Rattle.std.proofs.Common.{◌≡◌, ◌<◌, ◌≤◌, ◌+◌, ℕ, suc, add-one, List, ◌∷◌, ◌++◌, length, drop, take, map, All, append-nil, append_assoc, sym, ap, ◌∙◌, drop-cons}
+use Rattle.std.proofs.Common.{◌≡◌, ◌<◌, ◌≤◌, ◌+◌, ℕ, suc, Bool, add-one, List, ◌∷◌, ◌++◌, length, drop, take, map, All, append-nil, append_assoc, sym, ap, ◌∙◌, drop-cons}
 use Rattle.std.proofs.lemmas.List.{drop_all}
 use Rattle.std.specs.List.{flat_map}
 use Rattle.std.specs.Prelude.{OnOk, Result, Ok, Err, slice_index_or}
-use Rattle.vax_asm_check.specs.Listed.{AreFirst}
-use Rattle.vax_asm_errors.specs.Errors.{IsErrors, IsPlain, ending, error}
+use Rattle.vax_asm_check.specs.Listed.{AreFound}
+use Rattle.vax_asm_errors.specs.Errors.{IsErrors, IsPlain, ending, error, limits}
 use Rattle.vax_asm_errors.specs.declared.said.Said.{Said}
 use Rattle.vax_asm_faults.specs.Refusal.{faults_of}
 use Rattle.vax_asm_second.specs.declared.types.Fault.{Fault}
@@ -22,26 +22,17 @@ error_added {X} told faults i f before after all h at more same =
 pub errors_added : {X : Type 0} (told : X → List ℕ) (faults : List X) (i : ℕ) (before all : List ℕ) → length faults ≤ i → before ++ flat_map told (drop i faults) ≡ all → before ≡ all
 errors_added {X} told faults i before all h same = sym (append-nil before) ∙ ap (λ (l : List X). before ++ flat_map told l) (sym (drop_all i faults h)) ∙ same
 
-pub all_added : {A E : Type 0} (r : Result A E) (dialect : Dialect) (name source : List ℕ) (found : List Fault) (said : List Said) (count : ℕ) (before between after : List ℕ) → AreFirst 300 found (faults_of dialect source) → map (λ s. s.fault) said ≡ take 100 found → All IsPlain said
-    → between ≡ before ++ flat_map (error name source) said → count ≡ length found → OnOk r (after ≡ between ++ ending name count) → OnOk r (IsErrors dialect name source before after)
-all_added (Ok x) dialect name source found said count before between after first told plain b e h = record {
+pub all_added : {A E : Type 0} (r : Result A E) (dialect : Dialect) (name source : List ℕ) (found : List Fault) (are_all : Bool) (said : List Said) (before between after : List ℕ) → AreFound are_all limits found (faults_of dialect source) → map (λ s. s.fault) said ≡ take 100 found → All IsPlain said
+    → between ≡ before ++ flat_map (error name source) said → OnOk r (after ≡ between ++ ending name are_all (length found)) → OnOk r (IsErrors dialect name source before after)
+all_added (Ok x) dialect name source found are_all said before between after first told plain b h = record {
+  are_all = are_all;
   found = found;
   first = first;
   said = said;
   told = told;
   plain = plain;
   text =
-      h ∙ ap (λ (n : ℕ). between ++ ending name n) e ∙ ap (λ (l : List ℕ). l ++ ending name (length found)) b
-      ∙ append_assoc before (flat_map (error name source) said) (ending name (length found));
+      h ∙ ap (λ (l : List ℕ). l ++ ending name are_all (length found)) b
+      ∙ append_assoc before (flat_map (error name source) said) (ending name are_all (length found));
 }
-all_added (Err x) dialect name source found said count before between after first told plain b e h = tt
-
-regroup_pushed : (out n a l d e : List ℕ) → out ++ n ++ a ++ l ++ d ++ e ≡ out ++ (n ++ a ++ l ++ d ++ e)
-regroup_pushed out n a l d e = simp append_assoc
-
--- five texts, one behind the other
-pub pushed : {A E : Type 0} (r : Result A E) (out n a l d e one two three four five : List ℕ) → one ≡ out ++ n → two ≡ one ++ a → three ≡ two ++ l → four ≡ three ++ d → OnOk r (five ≡ four ++ e)
-    → OnOk r (five ≡ out ++ (n ++ a ++ l ++ d ++ e))
-pushed (Ok x) out n a l d e one two three four five p q s t u =
-    u ∙ ap (λ (x : List ℕ). x ++ e) (t ∙ ap (λ (x : List ℕ). x ++ d) (s ∙ ap (λ (x : List ℕ). x ++ l) (q ∙ ap (λ (x : List ℕ). x ++ a) p))) ∙ regroup_pushed out n a l d e
-pushed (Err x) out n a l d e one two three four five p q s t u = tt
+all_added (Err x) dialect name source found are_all said before between after first told plain b h = tt

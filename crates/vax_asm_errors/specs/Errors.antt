@@ -1,7 +1,8 @@
 -- The errors of a source as text.
-use Rattle.std.specs.Prelude.{◌≡◌, All, ℕ, ◌+◌, ◌-◌, Bool, ◌==◌, ◌&&◌, ◌||◌, not, nat_le, nat_lt, if◌then◌else◌, List, [], ◌∷◌, ◌++◌, length, map, take, codes, decimal}
+use Rattle.std.specs.Prelude.{◌≡◌, All, ℕ, ◌+◌, ◌-◌, Bool, true, false, ◌==◌, ◌&&◌, ◌||◌, not, nat_le, nat_lt, if◌then◌else◌, List, [], ◌∷◌, ◌++◌, length, map, take, codes, decimal}
 use Rattle.std.specs.List.{flat_map, position_or_len}
-use Rattle.vax_asm_check.specs.Listed.{AreFirst}
+use Rattle.vax_asm_check.specs.Listed.{AreFound}
+use Rattle.vax_asm_check.specs.declared.told.Limits.{Limits}
 use Rattle.vax_asm_faults.specs.Refusal.{faults_of}
 use Rattle.vax_asm_causes.specs.Printed.{ArePrinted}
 use Rattle.vax_asm_errors.specs.declared.said.Said.{Said}
@@ -81,25 +82,32 @@ pub record IsPlain (s : Said) : Type 0 where
   pub cause : ArePrinted s.cause.items
   pub expansion : ArePrinted s.expansion.items
 
-unfoldable pub least_words : ℕ → Text
-least_words count = if nat_lt count 300 then [] else codes "at least "
+-- so many more than a hundred there are, or so many at least
+unfoldable pub count_words : (least : Text) → ℕ → Text
+count_words least count = least ++ decimal count ++ codes " more in this file\n"
 
--- how many more than a hundred there are
-unfoldable pub more_words : Text → ℕ → Text
-more_words name count = name ++ codes ": error: " ++ least_words count ++ decimal (count - 100) ++ codes " more in this file\n"
+-- that of a file
+unfoldable pub more_words : (name least : Text) → ℕ → Text
+more_words name least count = name ++ codes ": error: " ++ count_words least count
 
--- A hundred faults are told at most, and then how many more there are. Of more than three hundred the rest isn't looked for.
-abbrev pub ending : Text → ℕ → Text
-ending name count = if nat_le count 100 then [] else more_words name count
+-- Where lines have three hundred faults by themselves, and a million lines stand up to each of these, together, the rest need not be looked for.
+abbrev pub limits : Limits
+limits = record { faults = 300; lines = 1000000 }
 
-abbrev pub errors : (name source : Text) → List Said → (count : ℕ) → Text
-errors name source said count = flat_map (error name source) said ++ ending name count
+-- A hundred faults are told at most, and then how many more there are.
+abbrev pub ending : Text → (are_all : Bool) → (count : ℕ) → Text
+ending name true count = if nat_le count 100 then [] else more_words name [] (count - 100)
+ending name false count = more_words name (codes "at least ") 200
+
+abbrev pub errors : (name source : Text) → List Said → (are_all : Bool) → (count : ℕ) → Text
+errors name source said are_all count = flat_map (error name source) said ++ ending name are_all count
 
 -- The errors of a source of a dialect were added: those of its first hundred faults, or of all. Each has a column and words on its cause.
 pub record IsErrors (dialect : Dialect) (name source before after : Text) : Type 0 where
+  pub are_all : Bool
   pub found : List Fault
-  pub first : AreFirst 300 found (faults_of dialect source)
+  pub first : AreFound are_all limits found (faults_of dialect source)
   pub said : List Said
   pub told : map (λ s. s.fault) said ≡ take 100 found
   pub plain : All IsPlain said
-  pub text : after ≡ before ++ errors name source said (length found)
+  pub text : after ≡ before ++ errors name source said are_all (length found)

@@ -1,24 +1,44 @@
 -- Remarks on a source as text.
-use Rattle.std.specs.Prelude.{◌≡◌, ◌+◌, List, ◌++◌, map, codes, decimal}
+use Rattle.std.specs.Prelude.{◌≡◌, ◌+◌, ◌++◌, map, codes, decimal}
 use Rattle.std.specs.List.{flat_map}
+use Rattle.vax_asm_causes.specs.Places.{piece_text}
+use Rattle.vax_asm_causes.specs.Remarks.{Asked, remarks}
+use Rattle.vax_asm_causes.specs.declared.remarks.About.{About}
+use Rattle.vax_asm_causes.specs.declared.remarks.About.TheVariants.{Place, Register, Mask, Unused}
 use Rattle.vax_asm_causes.specs.declared.remarks.Remark.{Remark}
-use Rattle.vax_asm_causes.specs.declared.remarks.Tone.{Tone}
-use Rattle.vax_asm_causes.specs.declared.remarks.Tone.TheVariants.{Warning, Note}
 use Rattle.vax_asm_errors.specs.Errors.{line_at, mark, shown}
 use Rattle.vax_lines.specs.Lines.{Text, lines}
 
 -- how a remark is meant
-unfoldable pub tone_words : Tone → Text
-tone_words Warning = codes ": warning: "
-tone_words Note = codes ": note: "
+unfoldable pub tone_words : About → Text
+tone_words Place = codes ": note: "
+tone_words Register = codes ": warning: "
+tone_words Mask = codes ": warning: "
+tone_words Unused = codes ": warning: "
 
--- a remark: its place, how it is meant, its words, and the line with a mark below a column
-unfoldable pub remark : (name source : Text) → Remark → Text
-remark name source r =
-    name ++ codes ":" ++ decimal r.line ++ codes ":" ++ decimal (r.column + 1) ++ tone_words r.tone ++ map shown r.words.items ++ codes "\n"
-    ++ mark (line_at r.line (lines source)) r.column
+-- a name between words
+unfoldable pub quoted : (before name behind : Text) → Text
+quoted before name behind = before ++ map shown name ++ behind
 
--- Some remarks on a source were added, and nothing else.
-pub record IsRemarked (name source before after : Text) : Type 0 where
-  pub remarks : List Remark
-  pub text : after ≡ before ++ flat_map (remark name source) remarks
+-- what it says of the name that is asked for, or of a name in the source
+unfoldable pub words : About → (asked name : Text) → Text
+words Place asked name = quoted (codes "`") asked (codes "` stands here")
+words Register asked name = quoted (codes "`") name (codes "` is a name and no register")
+words Mask asked name = codes "a program for the bare machine begins at an instruction, and .ENTRY begins with a mask"
+words Unused asked name = quoted (codes "nothing uses the label `") name (codes "`")
+
+-- what it says of a piece of a line
+abbrev pub words_on : (asked line : Text) → Remark → Text
+words_on asked line r = words r.about asked (piece_text line r.piece)
+
+-- the same with its place, how it is meant, and the line with a mark below a column
+unfoldable pub remark_at : (name asked line : Text) → Remark → Text
+remark_at name asked line r =
+    name ++ codes ":" ++ decimal r.line ++ codes ":" ++ decimal (r.piece.start + 1) ++ tone_words r.about ++ words_on asked line r ++ codes "\n" ++ mark line r.piece.start
+
+abbrev pub remark : (name source asked : Text) → Remark → Text
+remark name source asked r = remark_at name asked (line_at r.line (lines source)) r
+
+-- Exactly these remarks on a source were added, each as its text.
+abbrev pub IsRemarked : (name source : Text) → Asked → (before after : Text) → Type 0
+IsRemarked name source asked before after = after ≡ before ++ flat_map (remark name source asked.name) (remarks asked source)

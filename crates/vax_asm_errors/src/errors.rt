@@ -1,14 +1,14 @@
 // Errors of a source.
 
-ghost use Rattle.std.specs.Prelude.{◌≡◌, ◌≤◌, ◌++◌, ◌+◌, OnOk, decimal, take};
+ghost use Rattle.std.specs.Prelude.{◌≡◌, ◌++◌, ◌+◌, OnOk, decimal, length, take};
 ghost use Rattle.std.specs.List.{flat_map};
-ghost use Rattle.vax_asm_errors.specs.Errors.{IsErrors, ending, error, headline, least_words, mark, more_words, noted, place};
+ghost use Rattle.vax_asm_errors.specs.Errors.{IsErrors, count_words, ending, error, headline, mark, more_words, noted, place};
 
 use crate::line::{line_at, push_line, push_under};
 use crate::messages::message;
 use crate::said::{Said, said_of};
 use std::alloc::Global;
-use vax_asm_check::faults;
+use vax_asm_check::{Found, Limits, faults};
 use vax_asm_second::Fault;
 use vax_dialect::Dialect;
 use vax_outside::Text;
@@ -17,8 +17,11 @@ use vax_space::NoMemory;
 /// So many faults of a source are told at most.
 pub const MOST: usize = 100;
 
-/// Of a source with so many the rest isn't read.
+/// So many faults that lines have by themselves are counted at least.
 pub const COUNTED: usize = 300;
+
+/// Behind these no more are, once so many lines stand up to each of those that were counted, together.
+const LINES: usize = 1_000_000;
 
 /// A source with its dialect, and the name of its file.
 #[derive(Clone, Copy)]
@@ -103,7 +106,7 @@ fn push_error(out: &mut Vec<u8>, source: Source<'_>, said: &Said) -> Result<(), 
 {
     let number = said.fault.origin.line;
     push_headline(out, source.name, said)?;
-    push_mark(out, line_at(source.text, number), said.column)?;
+    push_mark(out, line_at(source.text, number as usize), said.column)?;
     push_note(out, source.name, number, &said.expansion)
 }
 
@@ -119,38 +122,40 @@ fn push_each(out: &mut Vec<u8>, source: Source<'_>, said: &[Said]) -> Result<(),
     Ok(())
 }
 
-/// Appends that there may be more, where so many were found that no more were looked for.
-#[tactic(auto, unfolding(crate::specs::Errors::least_words))]
-fn push_least(out: &mut Vec<u8>, count: usize) -> Result<(), NoMemory>
-    ensures { OnOk result (out.new.items ≡ out.old.items ++ least_words count) }
+/// Appends how many more there are, or how many at least.
+#[tactic(auto, unfolding(crate::specs::Errors::count_words))]
+fn push_count(out: &mut Vec<u8>, least: &[u8], count: usize) -> Result<(), NoMemory>
+    ensures { OnOk result (out.new.items ≡ out.old.items ++ count_words least.now count) }
 {
-    if count < COUNTED {
-        return Ok(());
-    }
-    push(out, b"at least ")
-}
-
-/// Appends how many more faults there are than are told.
-#[tactic(auto, unfolding(crate::specs::Errors::more_words))]
-fn push_more(out: &mut Vec<u8>, name: &[u8], count: usize) -> Result<(), NoMemory>
-    requires { 100 ≤ count }
-    ensures { OnOk result (out.new.items ≡ out.old.items ++ more_words name.now count) }
-{
-    push(out, name)?;
-    push(out, b": error: ")?;
-    push_least(out, count)?;
-    push_number(out, (count - MOST) as u64)?;
+    push(out, least)?;
+    push_number(out, count as u64)?;
     push(out, b" more in this file\n")
 }
 
-/// Appends how many more faults there are, if there are more than are told.
-fn push_ending(out: &mut Vec<u8>, name: &[u8], count: usize) -> Result<(), NoMemory>
-    ensures { OnOk result (out.new.items ≡ out.old.items ++ ending name.now count) }
+/// Appends how many more faults there are than are told, or how many at least.
+#[tactic(auto, unfolding(crate::specs::Errors::more_words))]
+fn push_more(out: &mut Vec<u8>, name: &[u8], least: &[u8], count: usize) -> Result<(), NoMemory>
+    ensures { OnOk result
+        (out.new.items ≡ out.old.items ++ more_words name.now least.now count) }
 {
+    push(out, name)?;
+    push(out, b": error: ")?;
+    push_count(out, least, count)
+}
+
+/// Appends how many more faults there are than are told, if there are more.
+fn push_ending(out: &mut Vec<u8>, name: &[u8], found: &Found) -> Result<(), NoMemory>
+    ensures { OnOk result (out.new.items ≡ out.old.items
+        ++ ending name.now found.now.are_all (length found.now.faults.items)) }
+{
+    if !found.are_all {
+        return push_more(out, name, b"at least ", COUNTED - MOST);
+    }
+    let count = found.faults.len();
     if count <= MOST {
         return Ok(());
     }
-    push_more(out, name, count)
+    push_more(out, name, b"", count - MOST)
 }
 
 /// The first so many faults, or all.
@@ -177,8 +182,12 @@ pub fn push_errors(alloc: Global, out: &mut Vec<u8>, source: Source<'_>) -> Resu
     ensures { OnOk result (IsErrors source.entry.dialect source.entry.name.now
         source.entry.text.now out.old.items out.new.items) }
 {
-    let found = faults(alloc, source.dialect, source.text, COUNTED)?;
-    let said = said_of(alloc, source, told(&found))?;
+    let limits = Limits {
+        faults: COUNTED,
+        lines: LINES,
+    };
+    let found = faults(alloc, source.dialect, source.text, limits)?;
+    let said = said_of(alloc, source, told(&found.faults))?;
     push_each(out, source, &said)?;
-    push_ending(out, source.name, found.len())
+    push_ending(out, source.name, &found)
 }

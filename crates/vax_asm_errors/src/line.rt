@@ -12,7 +12,7 @@ const SHOWN: usize = 160;
 
 /// The line with this number, counted from 1; none where there is no such line.
 #[tactic(auto, unfolding(crate::specs::Errors::line_at))]
-pub(crate) fn line_at(source: &[u8], number: u32) -> &[u8]
+pub(crate) fn line_at(source: &[u8], number: usize) -> &[u8]
     ensures { result.now ≡ line_at number (lines source.now) }
 {
     let mut rest = source;

@@ -82,7 +82,7 @@ fn said_of_seen(
     ensures fault { IfOk result (λ s. s.fault ≡ fault) }
     ensures plain { IfOk result IsPlain }
 {
-    let line = line_at(source.text, fault.origin.line);
+    let line = line_at(source.text, fault.origin.line as usize);
     let outer = place_of(source, line, &seen.facts, fault);
     let expansion = expansion_of(alloc, outer, &seen.text)?;
     if expansion.is_empty() {
@@ -106,7 +106,7 @@ fn one_said(
         return said_of_seen(alloc, source, seen, fault);
     }
     let facts = Facts::new(alloc);
-    let line = line_at(source.text, fault.origin.line);
+    let line = line_at(source.text, fault.origin.line as usize);
     said_there(alloc, place_of(source, line, &facts, fault), fault)
 }
 

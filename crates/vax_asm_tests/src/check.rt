@@ -71,9 +71,13 @@ fn all_faults_are_listed(rt: HostRuntime) -> Result<(), Fail> {
             wanted: &[(1, FaultKind::Count), (2, FaultKind::Nesting)],
         },
     ];
+    let limits = Limits {
+        faults: 100,
+        lines: 0,
+    };
     for row in &rows {
-        let found = faults(alloc, Dialect::Vax, row.source, 100)?;
-        assert!(rt; are(&found, row.wanted));
+        let found = faults(alloc, Dialect::Vax, row.source, limits)?;
+        assert!(rt; found.are_all && are(&found.faults, row.wanted));
     }
     Ok(())
 }
@@ -81,7 +85,25 @@ fn all_faults_are_listed(rt: HostRuntime) -> Result<(), Fail> {
 #[test]
 fn no_more_are_looked_for(rt: HostRuntime) -> Result<(), Fail> {
     let alloc = rt.alloc();
-    let found = faults(alloc, Dialect::Vax, b" HALT R1\n HALT R2\n HALT R3\n", 2)?;
-    assert!(rt; are(&found, &[(1, FaultKind::Count), (2, FaultKind::Count)]));
+    let source = b" HALT R1\n NOP\n HALT R2\n HALT R3\n";
+    let limits = Limits {
+        faults: 2,
+        lines: 4,
+    };
+    let found = faults(alloc, Dialect::Vax, source, limits)?;
+    assert!(rt; !found.are_all);
+    assert!(rt;
+        are(
+            &found.faults,
+            &[(1, FaultKind::Count), (3, FaultKind::Count)]
+        )
+    );
+    // where fewer lines stand up to them they are all looked for
+    let limits = Limits {
+        faults: 2,
+        lines: 9,
+    };
+    let found = faults(alloc, Dialect::Vax, source, limits)?;
+    assert!(rt; found.are_all && found.faults.len() == 3);
     Ok(())
 }

@@ -24,7 +24,7 @@ grows_on before between after a b = (a.0 ++ b.0, b.1 ∙ ap (λ (l : Text). l ++
 
 file_grows : (dialect : Dialect) (name file before after : Text) → IsFileTold dialect name file before after → Grows before after
 file_grows dialect name file before after (inl none) = grows_not before after none.1
-file_grows dialect name file before after (inr some) = (errors name file some.1.said (length some.1.found), some.1.text)
+file_grows dialect name file before after (inr some) = (errors name file some.1.said some.1.are_all (length some.1.found), some.1.text)
 
 grows : (dialect : Dialect) (names files : List Text) (before after : Text) → AreTold dialect names files before after → Grows before after
 grows dialect [] files before after h = grows_not before after h

@@ -1,13 +1,12 @@
 -- Files, one more at a time.
-use Rattle.std.proofs.Common.{◌≡◌, ◌<◌, ◌≤◌, ◌+◌, ◌⊎◌, inl, inr, ℕ, Bool, true, false, cond, List, [], ◌∷◌, ◌++◌, length, min, drop, append-nil, append_assoc, arith, refl, sym, ap, ◌∙◌}
+use Rattle.std.proofs.Common.{◌≡◌, ◌<◌, ◌≤◌, ◌+◌, ℕ, Bool, true, false, cond, List, [], ◌∷◌, ◌++◌, length, drop, append-nil, append_assoc, arith, refl, sym, ap, ◌∙◌}
 use Rattle.std.proofs.lemmas.List.{drop_all, map-append}
-use Rattle.std.specs.Borrow.{Bor}
 use Rattle.std.specs.Global.{Vec}
 use Rattle.std.specs.Prelude.{slice_index_or}
 use Rattle.vax_asm_errors.specs.declared.errors.Source.{Source}
-use Rattle.vax_check.proofs.Telling.{here, past}
+use Rattle.vax_check.proofs.Telling.{here}
 use Rattle.vax_check.specs.Linking.{File, files_of, plays, those}
-use Rattle.vax_check.specs.View.{file_seen, files_seen, names_of, with_if}
+use Rattle.vax_check.specs.View.{file_seen, files_seen, with_if}
 use Rattle.vax_check.specs.declared.sources.Role.{Role}
 use Rattle.vax_dialect.specs.declared.Dialect.{Dialect}
 use Rattle.vax_lines.specs.Lines.{Text}

@@ -5,6 +5,7 @@ use Rattle.std.proofs.lemmas.List.{drop_all}
 use Rattle.std.specs.Borrow.{Bor}
 use Rattle.std.specs.Global.{Vec}
 use Rattle.std.specs.Prelude.{slice_index_or}
+use Rattle.vax_asm_causes.specs.Remarks.{Asked}
 use Rattle.vax_check.specs.Told.{AreRemarked, AreTold, IsFileRemarked, IsFileTold}
 use Rattle.vax_check.specs.View.{names_of}
 use Rattle.vax_dialect.specs.declared.Dialect.{Dialect}
@@ -40,17 +41,17 @@ pub files_done : {All : Text → Type 0} (dialect : Dialect) (names : List (Bor 
 files_done dialect names files i stop before e h all = files_done_by dialect names files i before (past (length names) (length files) i stop e h) all
 
 -- the remarks on one more file, and on no more
-pub remark_more : {All : Text → Type 0} (names : List (Bor Text)) (files : List (Vec ℕ)) (i : ℕ) (n : Bor Text) (f : Vec ℕ) (before between : Text) → i < length names → i < length files → n ≡ slice_index_or names i n → f ≡ slice_index_or files i f → IsFileRemarked n.now f.items before between
-    → ((after : Text) → AreRemarked (names_of (drop i names)) (texts (drop i files)) before after → All after) → (after : Text) → AreRemarked (names_of (drop (i + 1) names)) (texts (drop (i + 1) files)) between after → All after
-remark_more names files i n f before between hn hf en ef h all after more = all after (rw (here names i n hn en, here files i f hf ef) (between, h, more))
+pub remark_more : {All : Text → Type 0} (asked : Asked) (names : List (Bor Text)) (files : List (Vec ℕ)) (i : ℕ) (n : Bor Text) (f : Vec ℕ) (before between : Text) → i < length names → i < length files → n ≡ slice_index_or names i n → f ≡ slice_index_or files i f → IsFileRemarked asked n.now f.items before between
+    → ((after : Text) → AreRemarked asked (names_of (drop i names)) (texts (drop i files)) before after → All after) → (after : Text) → AreRemarked asked (names_of (drop (i + 1) names)) (texts (drop (i + 1) files)) between after → All after
+remark_more asked names files i n f before between hn hf en ef h all after more = all after (rw (here names i n hn en, here files i f hf ef) (between, h, more))
 
-none_remarked : (names : List Text) (before : Text) → AreRemarked names [] before before
-none_remarked [] before = refl
-none_remarked (name ∷ names) before = refl
+none_remarked : (asked : Asked) (names : List Text) (before : Text) → AreRemarked asked names [] before before
+none_remarked asked [] before = refl
+none_remarked asked (name ∷ names) before = refl
 
-remarks_done_by : {All : Text → Type 0} (names : List (Bor Text)) (files : List (Vec ℕ)) (i : ℕ) (before : Text) → (length names ≤ i) ⊎ (length files ≤ i) → ((after : Text) → AreRemarked (names_of (drop i names)) (texts (drop i files)) before after → All after) → All before
-remarks_done_by names files i before (inl few) all = all before (rw (drop_all i names few) refl)
-remarks_done_by names files i before (inr few) all = all before (rw (drop_all i files few) (none_remarked (names_of (drop i names)) before))
+remarks_done_by : {All : Text → Type 0} (asked : Asked) (names : List (Bor Text)) (files : List (Vec ℕ)) (i : ℕ) (before : Text) → (length names ≤ i) ⊎ (length files ≤ i) → ((after : Text) → AreRemarked asked (names_of (drop i names)) (texts (drop i files)) before after → All after) → All before
+remarks_done_by asked names files i before (inl few) all = all before (rw (drop_all i names few) refl)
+remarks_done_by asked names files i before (inr few) all = all before (rw (drop_all i files few) (none_remarked asked (names_of (drop i names)) before))
 
-pub remarks_done : {All : Text → Type 0} (names : List (Bor Text)) (files : List (Vec ℕ)) (i stop : ℕ) (before : Text) → stop ≡ min (length names) (length files) → stop ≤ i → ((after : Text) → AreRemarked (names_of (drop i names)) (texts (drop i files)) before after → All after) → All before
-remarks_done names files i stop before e h all = remarks_done_by names files i before (past (length names) (length files) i stop e h) all
+pub remarks_done : {All : Text → Type 0} (asked : Asked) (names : List (Bor Text)) (files : List (Vec ℕ)) (i stop : ℕ) (before : Text) → stop ≡ min (length names) (length files) → stop ≤ i → ((after : Text) → AreRemarked asked (names_of (drop i names)) (texts (drop i files)) before after → All after) → All before
+remarks_done asked names files i stop before e h all = remarks_done_by asked names files i before (past (length names) (length files) i stop e h) all

@@ -1,5 +1,6 @@
 -- What is told of a program that isn't built.
-use Rattle.std.specs.Prelude.{◌≡◌, ◌⊎◌, ℕ, ◌==◌, true, false, if◌then◌else◌, List, [], ◌∷◌, ◌++◌, codes, decimal, Option, None, Some}
+use Rattle.std.specs.Prelude.{◌≡◌, ◌⊎◌, ℕ, ◌==◌, Bool, true, false, if◌then◌else◌, List, [], ◌∷◌, ◌++◌, codes, decimal, Option, None, Some}
+use Rattle.vax_asm_causes.specs.Remarks.{Asked}
 use Rattle.vax_asm_errors.specs.Errors.{IsErrors}
 use Rattle.vax_asm_errors.specs.Remarks.{IsRemarked}
 use Rattle.vax_dialect.specs.declared.Dialect.{Dialect}
@@ -17,15 +18,26 @@ AreTold dialect [] files before after = after ≡ before
 AreTold dialect (name ∷ names) [] before after = after ≡ before
 AreTold dialect (name ∷ names) (file ∷ files) before after = (between : Text) × IsFileTold dialect name file before between × AreTold dialect names files between after
 
--- remarks on one file were added, if it is a source
-abbrev pub IsFileRemarked : (name file before after : Text) → Type 0
-IsFileRemarked name file before after = ((is_linked file ≡ true) × (after ≡ before)) ⊎ ((is_linked file ≡ false) × IsRemarked name file before after)
+-- the remarks on one file that are asked for were added, if it is a source
+abbrev pub IsFileRemarked : Asked → (name file before after : Text) → Type 0
+IsFileRemarked asked name file before after = ((is_linked file ≡ true) × (after ≡ before)) ⊎ ((is_linked file ≡ false) × IsRemarked name file asked before after)
 
--- remarks on all sources among these files, in order
-abbrev pub AreRemarked : (names files : List Text) → (before after : Text) → Type 0
-AreRemarked [] files before after = after ≡ before
-AreRemarked (name ∷ names) [] before after = after ≡ before
-AreRemarked (name ∷ names) (file ∷ files) before after = (between : Text) × IsFileRemarked name file before between × AreRemarked names files between after
+-- those on all sources among these files, in order
+abbrev pub AreRemarked : Asked → (names files : List Text) → (before after : Text) → Type 0
+AreRemarked asked [] files before after = after ≡ before
+AreRemarked asked (name ∷ names) [] before after = after ≡ before
+AreRemarked asked (name ∷ names) (file ∷ files) before after = (between : Text) × IsFileRemarked asked name file before between × AreRemarked asked names files between after
+
+unfoldable pub asked_with : (bare unused : Bool) → (name : Text) → Asked
+asked_with bare unused name = record { bare = bare; unused = unused; name = name }
+
+-- What is asked of the sources of a program that has this refusal, or none: on masks where it is one for the bare machine, on labels that nothing uses
+-- where no file by itself has a fault, and where the name stands first that the linker refuses.
+abbrev pub asked_of : (bare : Bool) → Option Refusal → Asked
+asked_of bare None = asked_with bare true []
+asked_of bare (Some (Link kind name address)) = asked_with bare true name
+asked_of bare (Some (Source file line kind)) = asked_with bare false []
+asked_of bare (Some (InImage place kind)) = asked_with bare false []
 
 -- the fault of a field of an executable, in words
 unfoldable pub executable_words : ℕ → Text
@@ -79,7 +91,8 @@ AreErrorsOf dialect names files (Source file line kind) text = AreTold dialect n
 AreErrorsOf dialect names files (Link kind name address) text = text ≡ link_text dialect kind name address (files_of names files)
 AreErrorsOf dialect names files (InImage place kind) text = text ≡ image_text place kind
 
--- What is told of files: why they give no program, if they give none, and then remarks on their sources.
-abbrev pub Tells : Dialect → (names files : List Text) → Option Refusal → Text → Type 0
-Tells dialect names files None text = AreRemarked names files [] text
-Tells dialect names files (Some refusal) text = (errors : Text) × AreErrorsOf dialect names files refusal errors × AreRemarked names files errors text
+-- What is told of files of a program, which may be one for the bare machine: why they give none, if they give none, and then remarks on their sources.
+abbrev pub Tells : Dialect → (bare : Bool) → (names files : List Text) → Option Refusal → Text → Type 0
+Tells dialect bare names files None text = AreRemarked (asked_of bare None) names files [] text
+Tells dialect bare names files (Some refusal) text =
+    (errors : Text) × AreErrorsOf dialect names files refusal errors × AreRemarked (asked_of bare (Some refusal)) names files errors text

@@ -1,6 +1,7 @@
 // The remarks on all sources.
 
 ghost use Rattle.std.specs.Prelude.{OnOk};
+ghost use Rattle.vax_asm_causes.specs.View.{asked_by};
 ghost use Rattle.vax_check.specs.Told.{AreRemarked, IsFileRemarked};
 ghost use Rattle.vax_check.specs.View.{names_of};
 ghost use Rattle.vax_program.specs.View.{texts as texts_seen};
@@ -19,8 +20,8 @@ fn push_file(
     file: Source<'_>,
     wanted: Wanted<'_>,
 ) -> Result<(), NoMemory>
-    ensures { OnOk result (IsFileRemarked file.entry.name.now file.entry.text.now
-        out.old.items out.new.items) }
+    ensures { OnOk result (IsFileRemarked (asked_by wanted.entry)
+        file.entry.name.now file.entry.text.now out.old.items out.new.items) }
 {
     if is_linked(file.text) {
         return Ok(());
@@ -37,7 +38,8 @@ fn push_named(
     text: &[u8],
     wanted: Wanted<'_>,
 ) -> Result<(), NoMemory>
-    ensures { OnOk result (IsFileRemarked name.now text.now out.old.items out.new.items) }
+    ensures { OnOk result (IsFileRemarked (asked_by wanted.entry)
+        name.now text.now out.old.items out.new.items) }
 {
     let file = Source {
         dialect,
@@ -55,7 +57,7 @@ pub(crate) fn push_each(
     files: Files<'_>,
     wanted: Wanted<'_>,
 ) -> Result<(), NoMemory>
-    ensures { OnOk result (AreRemarked (names_of files.entry.names.now)
+    ensures { OnOk result (AreRemarked (asked_by wanted.entry) (names_of files.entry.names.now)
         (texts_seen files.entry.texts.now) out.old.items out.new.items) }
 {
     for i in 0..files.names.len().min(files.texts.len()) {

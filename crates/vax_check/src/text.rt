@@ -2,8 +2,9 @@
 
 ghost use Rattle.std.specs.Prelude.{◌≡◌, IfOk};
 ghost use Rattle.std.specs.Option.{option_map};
+ghost use Rattle.vax_asm_causes.specs.View.{asked_by};
 ghost use Rattle.vax_check.specs.Linking.{files_of, link_text};
-ghost use Rattle.vax_check.specs.Told.{AreErrorsOf, Tells};
+ghost use Rattle.vax_check.specs.Told.{AreErrorsOf, Tells, asked_of, asked_with};
 ghost use Rattle.vax_check.specs.View.{names_of};
 ghost use Rattle.vax_program.specs.View.{refusal_seen, texts};
 
@@ -62,24 +63,22 @@ fn errors_in(alloc: Global, files: Files<'_>, refusal: &Refusal) -> Result<Vec<u
     }
 }
 
-/// Which remarks are wanted beside a refusal, or where there is none.
-fn wanted<'a>(bare: bool, refusal: Option<&'a Refusal>) -> Wanted<'a> {
+/// Remarks that are asked for.
+#[tactic(auto, unfolding(crate::specs::Told::asked_with))]
+fn asked_with(bare: bool, unused: bool, name: &[u8]) -> Wanted<'_>
+    ensures { asked_by result ≡ asked_with bare unused name.entry.now }
+{
+    Wanted { bare, unused, name }
+}
+
+/// Which remarks are asked for beside a refusal, or where there is none.
+fn asked_of<'a>(bare: bool, refusal: Option<&'a Refusal>) -> Wanted<'a>
+    ensures { asked_by result ≡ asked_of bare (option_map (λ r. refusal_seen r.now) refusal.entry) }
+{
     match refusal {
-        None => Wanted {
-            bare,
-            unused: true,
-            name: &[],
-        },
-        Some(Refusal::Link { name, .. }) => Wanted {
-            bare,
-            unused: true,
-            name: name.as_slice(),
-        },
-        Some(_) => Wanted {
-            bare,
-            unused: false,
-            name: &[],
-        },
+        None => asked_with(bare, true, &[]),
+        Some(Refusal::Link { name, .. }) => asked_with(bare, true, name.as_slice()),
+        Some(_) => asked_with(bare, false, &[]),
     }
 }
 
@@ -94,7 +93,7 @@ pub fn text_of(
     files: Files<'_>,
     refusal: Option<&Refusal>,
 ) -> Result<Vec<u8>, NoMemory>
-    ensures { IfOk result (λ v. Tells files.entry.dialect
+    ensures { IfOk result (λ v. Tells files.entry.dialect files.entry.bare
         (names_of files.entry.names.now) (texts files.entry.texts.now)
         (option_map (λ r. refusal_seen r.now) refusal.entry) v.items) }
 {
@@ -102,6 +101,6 @@ pub fn text_of(
         Some(refusal) => errors_in(alloc, files, refusal)?,
         None => Vec::new(alloc),
     };
-    push_each(alloc, &mut out, files, wanted(files.bare, refusal))?;
+    push_each(alloc, &mut out, files, asked_of(files.bare, refusal))?;
     Ok(out)
 }

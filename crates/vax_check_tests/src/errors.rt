@@ -110,20 +110,58 @@ fn lines_of_macros_and_repeats_are_told(rt: HostRuntime) -> Result<(), Fail> {
     Ok(())
 }
 
-#[test]
-fn more_than_a_hundred_are_counted(rt: HostRuntime) -> Result<(), Fail> {
-    let mut source = Vec::new(rt.alloc());
-    for _ in 0..120u32 {
-        source.extend_from_slice(b" MOVX\n")?;
+/// So many times a text, and behind them others.
+fn times(rt: &HostRuntime, count: u32, text: &[u8]) -> Result<Vec<u8>, Fail> {
+    let mut all = Vec::new(rt.alloc());
+    for _ in 0..count {
+        all.extend_from_slice(text)?;
     }
+    Ok(all)
+}
+
+/// Whether the errors of a source end so.
+fn ends_with(rt: &HostRuntime, text: &[u8], end: &[u8]) -> Result<bool, Fail> {
     let mut out = Vec::new(rt.alloc());
     let source = Source {
         dialect: Dialect::Vax,
         name: b"a.mar",
-        text: &source,
+        text,
     };
     push_errors(rt.alloc(), &mut out, source)?;
-    assert!(rt; out.ends_with(b" MOVX\n ^\na.mar: error: 20 more in this file\n"));
+    Ok(out.ends_with(end))
+}
+
+#[test]
+fn more_than_a_hundred_are_counted(rt: HostRuntime) -> Result<(), Fail> {
+    // of a hundred nothing is said
+    let hundred = times(&rt, 100, b" MOVX\n")?;
+    assert!(rt; ends_with(&rt, &hundred, b"`MOVX`\n MOVX\n ^\n")?);
+    let more = times(&rt, 120, b" MOVX\n")?;
+    assert!(rt;
+        ends_with(
+            &rt,
+            &more,
+            b" MOVX\n ^\na.mar: error: 20 more in this file\n"
+        )?
+    );
+    let many = times(&rt, 400, b" MOVX\n")?;
+    assert!(rt; ends_with(&rt, &many, b" ^\na.mar: error: 300 more in this file\n")?);
+    // behind three hundred not all are looked for, where a million lines stand up to these
+    let mut short = times(&rt, 1000, b" NOP\n")?;
+    short.extend_from_slice(&many)?;
+    assert!(rt; ends_with(&rt, &short, b" ^\na.mar: error: 300 more in this file\n")?);
+    let mut long = times(&rt, 3300, b" NOP\n")?;
+    long.extend_from_slice(&many)?;
+    assert!(rt;
+        ends_with(
+            &rt,
+            &long,
+            b" ^\na.mar: error: at least 200 more in this file\n"
+        )?
+    );
+    // those that the whole source decides are counted all
+    let whole = times(&rt, 350, b" BRB 9$\n")?;
+    assert!(rt; ends_with(&rt, &whole, b" ^\na.mar: error: 250 more in this file\n")?);
     Ok(())
 }
 

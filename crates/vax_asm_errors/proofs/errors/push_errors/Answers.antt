@@ -1,4 +1,4 @@
-use Rattle.std.proofs.Common.{◌≡◌, ◌++◌, List, length, take, ap, rules, ◌∙◌}
+use Rattle.std.proofs.Common.{◌++◌, List, take, ap, ◌∙◌}
 use Rattle.std.specs.List.{flat_map}
 use Rattle.vax_asm_errors.proofs.Listing.{all_added}
 use Rattle.vax_asm_errors.specs.Errors.{error}
@@ -9,10 +9,9 @@ pub returns : goal.returns
 returns c =
     let name = c.args.source.name.now in
     let source = c.args.source.text.now in
-    let found = c.in_ok-found.found.items in
+    let found = c.in_ok-found.found.faults.items in
     let said = c.in_ok-said.said.items in
     let before = c.args.out.now.items in
-    let many : c.len.result ≡ length found = search rules in
     let told = c.in_ok-said.ensures.faults ∙ c.told.ensures ∙ ap (λ (l : List Fault). take 100 l) c.deref.ensures.value in
-    all_added c.push_ending.result c.args.source.dialect name source found said c.len.result before c.push_each.new.out.items c.push_ending.new.out.items c.in_ok-found.ensures told c.in_ok-said.ensures.plain
-    (c.in_ok-push_each.ensures ∙ ap (λ l. before ++ flat_map (error name source) l) c.deref-2.ensures.value) many c.push_ending.ensures
+    all_added c.push_ending.result c.args.source.dialect name source found c.in_ok-found.found.are_all said before c.push_each.new.out.items c.push_ending.new.out.items c.in_ok-found.ensures told c.in_ok-said.ensures.plain
+    (c.in_ok-push_each.ensures ∙ ap (λ l. before ++ flat_map (error name source) l) c.deref-2.ensures.value) c.push_ending.ensures

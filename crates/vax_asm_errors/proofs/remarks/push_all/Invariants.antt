@@ -4,4 +4,5 @@ use Rattle.vax_asm_errors.specs.Remarks.{remark}
 use Rattle.vax_asm_errors.proofs.remarks.push_all.Given as goal
 
 abbrev pub invariant-loop-one : goal.invariant-loop-one
-invariant-loop-one l = l.out.items ++ flat_map (remark l.source.name.now l.source.text.now) (drop l.one-index l.all) ≡ l.fn.out.items ++ flat_map (remark l.source.name.now l.source.text.now) l.all
+invariant-loop-one l =
+    l.out.items ++ flat_map (remark l.source.name.now l.source.text.now l.asked) (drop l.one-index l.all) ≡ l.fn.out.items ++ flat_map (remark l.source.name.now l.source.text.now l.asked) l.all

@@ -8,4 +8,4 @@ pub returns-then-is_ended-clause-goes : goal.returns-then-is_ended-clause-goes
 returns-then-is_ended-clause-goes c =
     let old = c.args.self.now in
     let past : is_ended old.ended c.args.origin.place ≡ true = search rules in
-    λ next. goes_past c.args.origin c.args.said.text.items (left_of old.left) old.ended old.faults.items next past
+    λ next. goes_past c.args.origin c.args.said.text.items (left_of old.left) old.ended old.faults.list.items next past
