@@ -19,7 +19,7 @@ use Rattle.vax_asm_listing.specs.declared.types.Notes.{Notes}
 -- the module that a source is, and what its statements leave beside it
 pub record IsTraced (dialect : Dialect) (source : List ℕ) (m : Module) (n : Notes) : Type 0 where
   pub assembles : assembled dialect source ≡ Ok m
-  pub trace : IsTrace dialect (record { «module» = m; notes = n })
+  pub trace : IsTrace dialect source (record { «module» = m; notes = n })
 
 abbrev pub AreTraced : Dialect → List (List ℕ) → List Module → List Notes → Type 0
 AreTraced dialect [] [] [] = Unit {0}

@@ -1,6 +1,6 @@
 -- The listing of a program's modules: the lines of each with the addresses and the bytes of its statements, its sections and its names; and where
 -- the program begins (VAX MACRO and Instruction Set Reference Manual, "VAX MACRO listing").
-use Rattle.std.specs.Prelude.{ℕ, ◌+◌, ◌-◌, ◌*◌, ◌/◌, ◌%◌, ◌^◌, Bool, true, false, ◌&&◌, ◌==◌, nat_lt, if◌then◌else◌, List, [], ◌∷◌, ◌++◌, length, take, drop, replicate, slice_index, codes, decimal, Option, Some, None}
+use Rattle.std.specs.Prelude.{ℕ, ◌+◌, ◌-◌, ◌*◌, ◌/◌, ◌%◌, ◌^◌, Bool, true, false, ◌&&◌, ◌==◌, nat_le, nat_lt, if◌then◌else◌, List, [], ◌∷◌, ◌++◌, length, take, drop, replicate, slice_index, codes, decimal, Option, Some, None}
 use Rattle.std.specs.List.{flat_map, list_all}
 use Rattle.std.specs.Str.{bytes_eq}
 use Rattle.vax_outside.specs.Hex.{hex}
@@ -107,14 +107,19 @@ row_lines p number row =
 abbrev pub is_of : ℕ → Row → Bool
 is_of number row = row.origin.line == number
 
--- the rows of a line that stand behind its own, and those that are left
+-- The rows that stand behind a line: those of the line that aren't it, and those of lines before. Copies of a repeat are of the line with which it begins, and
+-- a label of the line with which it ends stands before them.
+abbrev pub is_up_to : ℕ → Row → Bool
+is_up_to number row = nat_le row.origin.line number
+
+-- these rows, and those that are left
 unfoldable pub others_lines : Placing → (number : ℕ) → List Row → List ℕ
 others_lines p number [] = []
-others_lines p number (row ∷ rows) = if is_of number row then row_lines p None row ++ others_lines p number rows else []
+others_lines p number (row ∷ rows) = if is_up_to number row then row_lines p None row ++ others_lines p number rows else []
 
 unfoldable pub others_left : (number : ℕ) → List Row → List Row
 others_left number [] = []
-others_left number (row ∷ rows) = if is_of number row then others_left number rows else row ∷ rows
+others_left number (row ∷ rows) = if is_up_to number row then others_left number rows else row ∷ rows
 
 abbrev pub is_own : (number : ℕ) → List ℕ → Row → Bool
 is_own number text row = is_of number row && bytes_eq row.text text
@@ -139,6 +144,11 @@ unfoldable pub source_lines : Placing → ℕ → List (List ℕ) → List Row �
 source_lines p number [] rows = []
 source_lines p number (text ∷ texts) rows =
     line_lines p (number + 1) text rows ++ source_lines p (number + 1) texts (line_left (number + 1) text rows)
+
+-- the rows that are left behind them
+unfoldable pub source_left : ℕ → List (List ℕ) → List Row → List Row
+source_left number [] rows = rows
+source_left number (text ∷ texts) rows = source_left (number + 1) texts (line_left (number + 1) text rows)
 
 -- ---- Sections and names
 

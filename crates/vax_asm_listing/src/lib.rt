@@ -10,7 +10,7 @@ mod tables;
 mod tracing;
 mod types;
 
-pub use laws::rows_are_statements;
+pub use laws::{all_rows_are_listed, opened_rows_lead_on, rows_are_statements};
 pub use program::{ListingError, list_sources, trace_files};
 pub use tables::listing;
 pub use tracing::trace;

@@ -124,6 +124,13 @@ fn is_of(row: &Row, number: u64) -> bool
     u64::from(row.origin.line) == number
 }
 
+/// Whether a statement is one of a line, or of a line before it.
+fn is_up_to(row: &Row, number: u64) -> bool
+    ensures { result ≡ spec.is_up_to number row.now }
+{
+    u64::from(row.origin.line) <= number
+}
+
 /// Appends a line of the source with the statement that it is, if it is one, and tells which rows are left.
 #[tactic(auto, unfolding(crate::specs::Listing::own_lines, crate::specs::Listing::own_left))]
 fn push_own<'a>(
@@ -147,7 +154,7 @@ fn push_own<'a>(
     Ok(rows)
 }
 
-/// Appends the statements of a line that have lines of their own, and tells which rows are left.
+/// Appends the statements up to a line that have lines of their own, and tells which rows are left.
 #[tactic(auto, unfolding(crate::specs::Listing::others_lines, crate::specs::Listing::others_left))]
 fn push_others<'a>(
     out: &mut Vec<u8>,
@@ -161,7 +168,7 @@ fn push_others<'a>(
 {
     let mut left = rows;
     while let Some((row, others)) = left.split_first() {
-        if !is_of(row, number) {
+        if !is_up_to(row, number) {
             return Ok(left);
         }
         push_row(out, placing, None, row)?;

@@ -1,15 +1,16 @@
 // A source from its first statement to its last, with what each put where.
 
-ghost use Rattle.std.specs.Prelude.{◌≡◌, Err, None, IfOk, OnOk};
+ghost use Rattle.std.specs.Prelude.{◌≡◌, ℕ, Err, List, None, IfOk, OnOk};
 ghost use Rattle.vax_asm.specs.View.{assembly_of, Says};
-ghost use Rattle.vax_asm.specs.Walk.{assembled, ended, nothing, resumed};
+ghost use Rattle.vax_asm.specs.Walk.{assembled, ended, resumed};
 ghost use Rattle.vax_asm_first.specs.View.{standing_of};
 ghost use Rattle.vax_asm_second.specs.View as second;
 ghost use Rattle.vax_dialect.specs.declared.Dialect.{Dialect};
 ghost use Rattle.vax_macro.specs.Expanders.{FaultIs, read_of, unclosed_of};
 ghost use Rattle.vax_macro.specs.Expansion.{Opened};
+ghost use Rattle.vax_macro.specs.Rest.{Rest};
 ghost use Rattle.vax_module.specs.Formed.{Formed};
-ghost use Rattle.vax_asm_listing.specs.Rows.{IsTrace, LeadAll, point_of, row_of};
+ghost use Rattle.vax_asm_listing.specs.Rows.{AreRowsOf, IsAtEnd, IsTrace, Opens, point_of, row_of};
 ghost use Rattle.vax_asm_listing.specs.View.{Answers, Fills};
 
 use crate::names::labels_of;
@@ -68,10 +69,11 @@ fn say(
     ensures says { Says result origin said.text.items
         (assembly_of walk.old.standing walk.old.assignments)
         (assembly_of walk.new.standing walk.new.assignments) walk.old.met walk.new.met }
-    ensures rows { OnOk result ((dialect : Dialect) →
-        (walk.old.met ≡ None → LeadAll (nothing dialect) rows.old.items
+    ensures rows { OnOk result ((dialect : Dialect) → (source : List ℕ) → (before after : Rest) →
+        Opens before (assembly_of walk.old.standing walk.old.assignments) origin said.text.items
+        after → (walk.old.met ≡ None → AreRowsOf dialect source rows.old.items before
         (assembly_of walk.old.standing walk.old.assignments)) → walk.new.met ≡ None →
-        LeadAll (nothing dialect) rows.new.items
+        AreRowsOf dialect source rows.new.items after
         (assembly_of walk.new.standing walk.new.assignments)) }
 {
     let before = point_of(&walk.standing);
@@ -92,9 +94,11 @@ fn say(
 fn end(walk: Walk, alloc: Global, rows: Vec<Row>) -> Result<Trace, FillError>
     ensures module { Fills result
         (ended (assembly_of walk.standing walk.assignments) walk.met None) }
-    ensures trace { (dialect : Dialect) → (walk.met ≡ None
-        → LeadAll (nothing dialect) rows.items (assembly_of walk.standing walk.assignments)) →
-        IfOk result (IsTrace dialect) }
+    ensures trace { (dialect : Dialect) → (source : List ℕ) → (left : Rest) →
+        IsAtEnd left (assembly_of walk.standing walk.assignments) → (walk.met ≡ None →
+        AreRowsOf dialect source rows.items left
+        (assembly_of walk.standing walk.assignments)) →
+        IfOk result (IsTrace dialect source) }
     ensures formed { IfOk result (λ t. Formed t.module) }
 {
     let Ok(labels) = labels_of(alloc, &walk.standing.scope) else {
@@ -122,7 +126,7 @@ fn stop(walk: Walk, alloc: Global, expander: &Expander, line: u32, kind: FaultKi
 #[tactic(auto, using(vax_asm::proofs::Opening::walked_opened))]
 fn traced(alloc: Global, dialect: Dialect, source: &[u8]) -> Result<Trace, FillError>
     ensures module { Fills result (assembled dialect source.now) }
-    ensures trace { IfOk result (IsTrace dialect) }
+    ensures trace { IfOk result (IsTrace dialect source.now) }
     ensures formed { IfOk result (λ t. Formed t.module) }
 {
     let Ok(mut expander) = Expander::new(alloc, dialect, source) else {
@@ -169,8 +173,8 @@ fn traced(alloc: Global, dialect: Dialect, source: &[u8]) -> Result<Trace, FillE
 pub fn trace(alloc: Global, dialect: Dialect, source: &[u8]) -> Result<Trace, AsmError>
     // The module is that of the assembler.
     ensures module { Answers result (assembled dialect source.now) }
-    // The rows are those of its statements, from the first to the last.
-    ensures trace { IfOk result (IsTrace dialect) }
+    // The rows are those of the statements that the source opens to, from the first to the last.
+    ensures trace { IfOk result (IsTrace dialect source.now) }
     ensures formed { IfOk result (λ t. Formed t.module) }
 {
     match traced(alloc, dialect, source) {

@@ -42,6 +42,33 @@ NAMES
 ENTRY 00000221
 ";
 
+/// A repeat with a label before its end. The label stands before the copies, which are of the line with which the repeat begins.
+const REPEAT: &str = "S:      HALT
+        .REPT 2
+        .BYTE 1
+L:      .ENDR
+        .BYTE 2
+        .END S
+";
+
+const REPEAT_LISTING: &str = "MODULE 1
+     1 00000200 00                       S:      HALT
+     2                                           .REPT 2
+     3                                           .BYTE 1
+     4                                   L:      .ENDR
+     + 00000201                              L:
+     + 00000201 01                                   .BYTE 1
+     + 00000202 01                                   .BYTE 1
+     5 00000203 02                               .BYTE 2
+     6 00000204                                  .END S
+SECTIONS
+00000200      4 WRT   . BLANK .
+NAMES
+00000200 REL        S
+00000201 REL        L
+ENTRY 00000200
+";
+
 /// The listing of a source.
 fn listing_of(rt: &HostRuntime, source: &str) -> Result<Vec<u8>, ListingError> {
     let file = Vec::from_slice(rt.alloc(), source.as_bytes())?;
@@ -53,6 +80,15 @@ fn listing_of(rt: &HostRuntime, source: &str) -> Result<Vec<u8>, ListingError> {
 fn lists_lines_sections_and_names(rt: HostRuntime) -> Result<(), Fail> {
     let text = listing_of(&rt, SOURCE)?;
     assert!(rt; text.as_slice() == LISTING.as_bytes());
+    Ok(())
+}
+
+#[test]
+fn lists_what_stands_behind_a_label_before_the_end_of_a_repeat(
+    rt: HostRuntime,
+) -> Result<(), Fail> {
+    let text = listing_of(&rt, REPEAT)?;
+    assert!(rt; text.as_slice() == REPEAT_LISTING.as_bytes());
     Ok(())
 }
 
