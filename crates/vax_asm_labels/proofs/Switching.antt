@@ -1,12 +1,12 @@
 -- Functions are switched, one operand after another.
-use Rattle.std.proofs.Common.{◌≡◌, ◌<◌, ◌+◌, ℕ, suc, add-one, Bool, false, List, [], ◌∷◌, length, map, drop, Result, Ok, Err, refl, sym, ap, ◌∙◌, drop-cons}
+use Rattle.std.proofs.Common.{◌≡◌, ◌<◌, ◌+◌, ℕ, add-one, Bool, false, List, [], ◌∷◌, length, map, drop, Result, Ok, Err, refl, sym, ap, ◌∙◌, drop-cons}
 use Rattle.std.specs.Borrow.{Bor}
 use Rattle.std.specs.Prelude.{◌==◌, slice_index_or}
 use Rattle.vax_asm_data.specs.Data.{unless_none}
 use Rattle.vax_lex.specs.declared.token.Token.{Token}
 use Rattle.vax_macro.specs.declared.error.FaultKind.{FaultKind}
 use Rattle.vax_asm_first.specs.Standing.{Standing}
-use Rattle.vax_asm_labels.specs.Functions.{all_switched, function_at, switched, then_switched}
+use Rattle.vax_asm_labels.specs.Functions.{all_switched, function_at, switched}
 
 abbrev now : Bor (List Token) → List Token
 now s = s.now

@@ -1,6 +1,6 @@
 -- `.ENABLE` and `.DISABLE`: functions of the assembler, by their names (VAX MACRO and Instruction Set Reference Manual, these
 -- directives).
-use Rattle.std.specs.Prelude.{ℕ, Bool, true, false, not, ◌||◌, if◌then◌else◌, List, [], ◌∷◌, Option, Some, None, Result, Ok, Err, codes}
+use Rattle.std.specs.Prelude.{ℕ, Bool, not, ◌||◌, if◌then◌else◌, List, [], ◌∷◌, Option, Some, None, Result, Ok, Err, codes}
 use Rattle.vax_asm_data.specs.Data.{unless_none}
 use Rattle.vax_asm_first.specs.Standing.{Standing}
 use Rattle.vax_asm_labels.specs.Naming.{next_block}

@@ -45,14 +45,13 @@ use Rattle.vax_flat.specs.State.{State, register, mode, priority, overflow_enabl
 use Rattle.vax_flat.specs.Accesses.{Accesses, Raises, Leaf}
 use Rattle.vax_flat.specs.Operand.{extended, write_in, asked}
 use Rattle.vax_flat.specs.Rows.{value_at, stored, flow_of, settled, answered, pushed}
-use Rattle.vax_flat.specs.Integer.{subscript_flow, pushed_result, performed as integer_performed}
-use Rattle.vax_flat.specs.Control.{called, return_subroutine, looped, chosen, performed as control_performed}
-use Rattle.vax_flat.specs.Field.{holder, is_reserved_field, held, put, field_bits, extracted, compared_field, found, inserted as inserted_field, becoming, branched_on, performed as field_performed}
+use Rattle.vax_flat.specs.Integer.{subscript_flow, pushed_result}
+use Rattle.vax_flat.specs.Control.{called, return_subroutine, looped, chosen}
+use Rattle.vax_flat.specs.Field.{holder, is_reserved_field, held, put, field_bits, extracted, compared_field, found, inserted as inserted_field, becoming, branched_on}
 use Rattle.vax_flat.specs.Delivery.{on_interrupt_stack, takes_interrupt_stack, status, at_handler, served, interrupt_vector, change_vector, vectored, pushed_in, pushed_if, pushed_all, entered, dispatched, vector_of, parameters, delivery, interrupted, interrupt, changed, pushed_outside, changed_to, change_by, change_mode}
 use Rattle.vax_flat.specs.System.{flow_of_delivery, return_from, is_refused, pointer, input_byte, input_after, input_ready, return_exception, probed, set_processor, get_processor, status_set, status_cleared, unless_privileged, is_for_kernel, performed as system_performed}
-use Rattle.vax_flat.specs.Queue.{inserted, removed, is_odd, aligned_sum, performed as queue_performed}
-use Rattle.vax_flat.specs.Call.{frame_word, saved, restored, registers_pushed, registers_popped, at_procedure, entered as procedure_entered, entry_mask, called_with_list, called_with_stack, is_status, behind_arguments, unwound, return_from as procedure_return, performed as call_performed}
-use Rattle.vax_flat.specs.StringParts.{text_part}
+use Rattle.vax_flat.specs.Queue.{inserted, removed, is_odd, aligned_sum}
+use Rattle.vax_flat.specs.Call.{frame_word, saved, restored, registers_pushed, registers_popped, at_procedure, entered as procedure_entered, entry_mask, called_with_list, called_with_stack, is_status, behind_arguments, unwound, return_from as procedure_return}
 use Rattle.vax_flat.specs.Instruction.{acted, acted_part, acted_part_if, first_part}
 use Rattle.vax_flat.specs.Evaluation.{next_operands}
 use Rattle.vax_flat.specs.Step.{level, finished, handed_over, delivered}
@@ -64,68 +63,48 @@ use Rattle.vax_flat.proofs.Frames.{IsTopNear, top_here, top_fewer, top_aligned, 
 use Rattle.vax_flat.proofs.StringBounds.{first_by_adds, resumed_adds}
 use Rattle.vax_flat.proofs.OperandBounds.{costs, AreWide, operands_add}
 
--- the operands of each instruction are 1 to 8 bytes wide, and have few ranges
-record AreModest (kinds : List OperandKind) : Type 0 where
+-- the operands of an instruction are 1 to 8 bytes wide, and have so many ranges at most
+record AreModest (most : ℕ) (kinds : List OperandKind) : Type 0 where
   wide : AreWide kinds
-  few : costs kinds ≤ 11
+  few : costs kinds ≤ most
   short : length kinds ≤ 6
 
-size_wide : (s : Size) → (1 ≤ bytes_of s) × (bytes_of s ≤ 8)
-size_wide size.B = (omega arith, omega arith)
-size_wide size.W = (omega arith, omega arith)
-size_wide size.L = (omega arith, omega arith)
-size_wide size.Q = (omega arith, omega arith)
+size_some : (s : Size) → 1 ≤ bytes_of s
+size_some size.B = omega arith
+size_some s = omega arith
 
-integer_modest : (i : Integer) → AreModest (of_integer i)
-integer_modest (integer.Unary operation from to) = record { wide = ((size_wide from).0, (size_wide from).1, ((size_wide to).0, (size_wide to).1, tt)); few = omega arith; short = omega arith }
-integer_modest (integer.Two operation s) = record { wide = ((size_wide (size_of s)).0, (size_wide (size_of s)).1, ((size_wide (size_of s)).0, (size_wide (size_of s)).1, tt)); few = omega arith; short = omega arith }
-integer_modest (integer.Three operation s) = record { wide = ((size_wide (size_of s)).0, (size_wide (size_of s)).1, ((size_wide (size_of s)).0, (size_wide (size_of s)).1, ((size_wide (size_of s)).0, (size_wide (size_of s)).1, tt))); few = omega arith; short = omega arith }
-integer_modest (integer.ByOne operation s) = record { wide = ((size_wide (size_of s)).0, (size_wide (size_of s)).1, tt); few = omega arith; short = omega arith }
-integer_modest (integer.Clear s) = record { wide = ((size_wide s).0, (size_wide s).1, tt); few = omega arith; short = omega arith }
-integer_modest (integer.Test s) = record { wide = ((size_wide (size_of s)).0, (size_wide (size_of s)).1, tt); few = omega arith; short = omega arith }
-integer_modest (integer.Compare s) = record { wide = ((size_wide (size_of s)).0, (size_wide (size_of s)).1, ((size_wide (size_of s)).0, (size_wide (size_of s)).1, tt)); few = omega arith; short = omega arith }
-integer_modest (integer.BitTest s) = record { wide = ((size_wide (size_of s)).0, (size_wide (size_of s)).1, ((size_wide (size_of s)).0, (size_wide (size_of s)).1, tt)); few = omega arith; short = omega arith }
-integer_modest (integer.Shift s) = record { wide = ((size_wide size.B).0, (size_wide size.B).1, ((size_wide s).0, (size_wide s).1, ((size_wide s).0, (size_wide s).1, tt))); few = omega arith; short = omega arith }
-integer_modest integer.Rotate = record { wide = ((size_wide size.B).0, (size_wide size.B).1, ((size_wide size.L).0, (size_wide size.L).1, ((size_wide size.L).0, (size_wide size.L).1, tt))); few = omega arith; short = omega arith }
-integer_modest (integer.MoveAddress s) = record { wide = ((size_wide s).0, (size_wide s).1, ((size_wide size.L).0, (size_wide size.L).1, tt)); few = omega arith; short = omega arith }
-integer_modest (integer.PushAddress s) = record { wide = ((size_wide s).0, (size_wide s).1, tt); few = omega arith; short = omega arith }
-integer_modest integer.Push = record { wide = ((size_wide size.L).0, (size_wide size.L).1, tt); few = omega arith; short = omega arith }
-integer_modest integer.ExtendedMultiply = record { wide = ((size_wide size.L).0, (size_wide size.L).1, ((size_wide size.L).0, (size_wide size.L).1, ((size_wide size.L).0, (size_wide size.L).1, ((size_wide size.Q).0, (size_wide size.Q).1, tt)))); few = omega arith; short = omega arith }
-integer_modest integer.ExtendedDivide = record { wide = ((size_wide size.L).0, (size_wide size.L).1, ((size_wide size.Q).0, (size_wide size.Q).1, ((size_wide size.L).0, (size_wide size.L).1, ((size_wide size.L).0, (size_wide size.L).1, tt)))); few = omega arith; short = omega arith }
-integer_modest integer.Index = record { wide = ((size_wide size.L).0, (size_wide size.L).1, ((size_wide size.L).0, (size_wide size.L).1, ((size_wide size.L).0, (size_wide size.L).1, ((size_wide size.L).0, (size_wide size.L).1, ((size_wide size.L).0, (size_wide size.L).1, ((size_wide size.L).0, (size_wide size.L).1, tt)))))); few = omega arith; short = omega arith }
+size_few : (s : Size) → bytes_of s ≤ 8
+size_few size.B = omega arith
+size_few s = omega arith
 
-control_modest : (i : Control) → AreModest (of_control i)
-control_modest (control.Branch condition s) = record { wide = ((size_wide (size_of s)).0, (size_wide (size_of s)).1, tt); few = omega arith; short = omega arith }
-control_modest (control.BranchSubroutine s) = record { wide = ((size_wide (size_of s)).0, (size_wide (size_of s)).1, tt); few = omega arith; short = omega arith }
-control_modest control.Jump = record { wide = ((size_wide size.B).0, (size_wide size.B).1, tt); few = omega arith; short = omega arith }
-control_modest control.JumpSubroutine = record { wide = ((size_wide size.B).0, (size_wide size.B).1, tt); few = omega arith; short = omega arith }
+integer_modest : (i : Integer) → AreModest 11 (of_integer i)
+integer_modest integer.Index = record { wide = search (arith, size_some, size_few) parts 8; few = omega arith; short = omega arith }
+integer_modest i = record { wide = search (arith, size_some, size_few) parts 8; few = omega arith; short = omega arith }
+
+control_modest : (i : Control) → AreModest 11 (of_control i)
 control_modest control.Return = record { wide = tt; few = omega arith; short = omega arith }
-control_modest (control.LowBit set) = record { wide = ((size_wide size.L).0, (size_wide size.L).1, ((size_wide size.B).0, (size_wide size.B).1, tt)); few = omega arith; short = omega arith }
-control_modest (control.AddOne r) = record { wide = ((size_wide size.L).0, (size_wide size.L).1, ((size_wide size.L).0, (size_wide size.L).1, ((size_wide size.B).0, (size_wide size.B).1, tt))); few = omega arith; short = omega arith }
-control_modest (control.SubtractOne r) = record { wide = ((size_wide size.L).0, (size_wide size.L).1, ((size_wide size.B).0, (size_wide size.B).1, tt)); few = omega arith; short = omega arith }
-control_modest (control.AddCompare s) = record { wide = ((size_wide (size_of s)).0, (size_wide (size_of s)).1, ((size_wide (size_of s)).0, (size_wide (size_of s)).1, ((size_wide (size_of s)).0, (size_wide (size_of s)).1, ((size_wide size.W).0, (size_wide size.W).1, tt)))); few = omega arith; short = omega arith }
-control_modest (control.Case s) = record { wide = ((size_wide (size_of s)).0, (size_wide (size_of s)).1, ((size_wide (size_of s)).0, (size_wide (size_of s)).1, ((size_wide (size_of s)).0, (size_wide (size_of s)).1, tt))); few = omega arith; short = omega arith }
+control_modest i = record { wide = search (arith, size_some, size_few) parts 8; few = omega arith; short = omega arith }
 
-system_modest : (i : System) → AreModest (of_system i)
+system_modest : (i : System) → AreModest 11 (of_system i)
 system_modest system.Halt = record { wide = tt; few = omega arith; short = omega arith }
-system_modest system.NoOperation = record { wide = tt; few = omega arith; short = omega arith }
-system_modest system.Breakpoint = record { wide = tt; few = omega arith; short = omega arith }
-system_modest system.Customer = record { wide = tt; few = omega arith; short = omega arith }
-system_modest system.Return = record { wide = tt; few = omega arith; short = omega arith }
-system_modest (system.ChangeMode target) = record { wide = ((size_wide size.W).0, (size_wide size.W).1, tt); few = omega arith; short = omega arith }
-system_modest (system.Probe writing) = record { wide = ((size_wide size.B).0, (size_wide size.B).1, ((size_wide size.W).0, (size_wide size.W).1, ((size_wide size.B).0, (size_wide size.B).1, tt))); few = omega arith; short = omega arith }
-system_modest system.ToRegister = record { wide = ((size_wide size.L).0, (size_wide size.L).1, ((size_wide size.L).0, (size_wide size.L).1, tt)); few = omega arith; short = omega arith }
-system_modest system.FromRegister = record { wide = ((size_wide size.L).0, (size_wide size.L).1, ((size_wide size.L).0, (size_wide size.L).1, tt)); few = omega arith; short = omega arith }
-system_modest system.MoveStatus = record { wide = ((size_wide size.L).0, (size_wide size.L).1, tt); few = omega arith; short = omega arith }
-system_modest system.SetStatus = record { wide = ((size_wide size.W).0, (size_wide size.W).1, tt); few = omega arith; short = omega arith }
-system_modest system.ClearStatus = record { wide = ((size_wide size.W).0, (size_wide size.W).1, tt); few = omega arith; short = omega arith }
+system_modest i = record { wide = search arith parts 8; few = omega arith; short = omega arith }
 
-field_modest : (i : Field) → AreModest (of_field i)
-field_modest (field_action.Extract signed) = record { wide = ((size_wide size.L).0, (size_wide size.L).1, ((size_wide size.B).0, (size_wide size.B).1, ((size_wide size.B).0, (size_wide size.B).1, ((size_wide size.L).0, (size_wide size.L).1, tt)))); few = omega arith; short = omega arith }
-field_modest (field_action.Compare signed) = record { wide = ((size_wide size.L).0, (size_wide size.L).1, ((size_wide size.B).0, (size_wide size.B).1, ((size_wide size.B).0, (size_wide size.B).1, ((size_wide size.L).0, (size_wide size.L).1, tt)))); few = omega arith; short = omega arith }
-field_modest field_action.Insert = record { wide = ((size_wide size.L).0, (size_wide size.L).1, ((size_wide size.L).0, (size_wide size.L).1, ((size_wide size.B).0, (size_wide size.B).1, ((size_wide size.B).0, (size_wide size.B).1, tt)))); few = omega arith; short = omega arith }
-field_modest (field_action.FindFirst set) = record { wide = ((size_wide size.L).0, (size_wide size.L).1, ((size_wide size.B).0, (size_wide size.B).1, ((size_wide size.B).0, (size_wide size.B).1, ((size_wide size.L).0, (size_wide size.L).1, tt)))); few = omega arith; short = omega arith }
-field_modest (field_action.Branch set becomes) = record { wide = ((size_wide size.L).0, (size_wide size.L).1, ((size_wide size.B).0, (size_wide size.B).1, ((size_wide size.B).0, (size_wide size.B).1, tt))); few = omega arith; short = omega arith }
+field_modest : (i : Field) → AreModest 11 (of_field i)
+field_modest field_action.Insert = record { wide = search arith parts 8; few = omega arith; short = omega arith }
+field_modest i = record { wide = search arith parts 8; few = omega arith; short = omega arith }
+
+call_modest : (i : Call) → AreModest 11 (of_call i)
+call_modest call.Return = record { wide = tt; few = omega arith; short = omega arith }
+call_modest i = record { wide = search arith parts 8; few = omega arith; short = omega arith }
+
+-- a queue instruction and a string instruction have fewer ranges for their operands, and more for their work
+queue_modest : (i : Queue) → AreModest 8 (of_queue i)
+queue_modest queue.Insert = record { wide = search arith parts 8; few = omega arith; short = omega arith }
+queue_modest i = record { wide = search arith parts 8; few = omega arith; short = omega arith }
+
+text_modest : (t : Text) → AreModest 9 (of_text t)
+text_modest text.Move = record { wide = search arith parts 8; few = omega arith; short = omega arith }
+text_modest t = record { wide = search arith parts 8; few = omega arith; short = omega arith }
 
 few_bytes : (position size : ℕ) → nat_lt 32 size ≡ false → (position % 8 + size + 7) / 8 ≤ 8
 few_bytes position size short = let few : size ≤ 32 = grind (arith, nat_tests) in omega arith
@@ -133,77 +112,16 @@ few_bytes position size short = let few : size ≤ 32 = grind (arith, nat_tests)
 -- a field lies in at most 5 bytes, or in registers
 few_held : (position size : ℕ) (base : Operand) → is_reserved_field position size base ≡ false → (holder position size base).width ≤ 8
 unfolding is_reserved_field holder
-few_held position size (operand.Value x) fine = few_bytes position size fine
-few_held position size (operand.Register n) fine = few_bytes position size fine
-few_held position size (operand.Memory addr) fine = few_bytes position size fine
 few_held position size (operand.FieldRegister n) fine = by (nat_le (position + size) 32)
   where
     by : (one : Bool) → (if one then 4 else 8) ≤ 8
     by true = omega arith
     by false = omega arith
-few_held position size (operand.Target addr) fine = few_bytes position size fine
+few_held position size base fine = few_bytes position size fine
 
-queue_wide : (i : Queue) → AreWide (of_queue i)
-queue_wide queue.Insert = ((size_wide size.B).0, (size_wide size.B).1, ((size_wide size.B).0, (size_wide size.B).1, tt))
-queue_wide queue.Remove = ((size_wide size.B).0, (size_wide size.B).1, ((size_wide size.L).0, (size_wide size.L).1, tt))
-queue_wide queue.AddAligned = ((size_wide size.W).0, (size_wide size.W).1, ((size_wide size.W).0, (size_wide size.W).1, tt))
-
--- a queue instruction has fewer ranges for its operands, and more for its work
-queue_few : (i : Queue) → costs (of_queue i) ≤ 8
-queue_few queue.Insert = omega arith
-queue_few queue.Remove = omega arith
-queue_few queue.AddAligned = omega arith
-
-queue_short : (i : Queue) → length (of_queue i) ≤ 6
-queue_short queue.Insert = omega arith
-queue_short queue.Remove = omega arith
-queue_short queue.AddAligned = omega arith
-
-text_wide : (t : Text) → AreWide (of_text t)
-text_wide text.Move = ((size_wide size.W).0, (size_wide size.W).1, ((size_wide size.B).0, (size_wide size.B).1, ((size_wide size.B).0, (size_wide size.B).1, tt)))
-text_wide text.MoveFilled = ((size_wide size.W).0, (size_wide size.W).1, ((size_wide size.B).0, (size_wide size.B).1, ((size_wide size.B).0, (size_wide size.B).1, ((size_wide size.W).0, (size_wide size.W).1, ((size_wide size.B).0, (size_wide size.B).1, tt)))))
-text_wide text.MoveTranslated = ((size_wide size.W).0, (size_wide size.W).1, ((size_wide size.B).0, (size_wide size.B).1, ((size_wide size.B).0, (size_wide size.B).1, ((size_wide size.B).0, (size_wide size.B).1, ((size_wide size.W).0, (size_wide size.W).1, ((size_wide size.B).0, (size_wide size.B).1, tt))))))
-text_wide text.MoveTranslatedUntil = ((size_wide size.W).0, (size_wide size.W).1, ((size_wide size.B).0, (size_wide size.B).1, ((size_wide size.B).0, (size_wide size.B).1, ((size_wide size.B).0, (size_wide size.B).1, ((size_wide size.W).0, (size_wide size.W).1, ((size_wide size.B).0, (size_wide size.B).1, tt))))))
-text_wide text.Compare = ((size_wide size.W).0, (size_wide size.W).1, ((size_wide size.B).0, (size_wide size.B).1, ((size_wide size.B).0, (size_wide size.B).1, tt)))
-text_wide text.CompareFilled = ((size_wide size.W).0, (size_wide size.W).1, ((size_wide size.B).0, (size_wide size.B).1, ((size_wide size.B).0, (size_wide size.B).1, ((size_wide size.W).0, (size_wide size.W).1, ((size_wide size.B).0, (size_wide size.B).1, tt)))))
-text_wide text.Locate = ((size_wide size.B).0, (size_wide size.B).1, ((size_wide size.W).0, (size_wide size.W).1, ((size_wide size.B).0, (size_wide size.B).1, tt)))
-text_wide text.Skip = ((size_wide size.B).0, (size_wide size.B).1, ((size_wide size.W).0, (size_wide size.W).1, ((size_wide size.B).0, (size_wide size.B).1, tt)))
-text_wide text.Scan = ((size_wide size.W).0, (size_wide size.W).1, ((size_wide size.B).0, (size_wide size.B).1, ((size_wide size.B).0, (size_wide size.B).1, ((size_wide size.B).0, (size_wide size.B).1, tt))))
-text_wide text.Span = ((size_wide size.W).0, (size_wide size.W).1, ((size_wide size.B).0, (size_wide size.B).1, ((size_wide size.B).0, (size_wide size.B).1, ((size_wide size.B).0, (size_wide size.B).1, tt))))
-text_wide text.Match = ((size_wide size.W).0, (size_wide size.W).1, ((size_wide size.B).0, (size_wide size.B).1, ((size_wide size.W).0, (size_wide size.W).1, ((size_wide size.B).0, (size_wide size.B).1, tt))))
-
-text_few : (t : Text) → costs (of_text t) ≤ 9
-text_few text.Move = omega arith
-text_few text.MoveFilled = omega arith
-text_few text.MoveTranslated = omega arith
-text_few text.MoveTranslatedUntil = omega arith
-text_few text.Compare = omega arith
-text_few text.CompareFilled = omega arith
-text_few text.Locate = omega arith
-text_few text.Skip = omega arith
-text_few text.Scan = omega arith
-text_few text.Span = omega arith
-text_few text.Match = omega arith
-
-text_short : (t : Text) → length (of_text t) ≤ 6
-text_short text.Move = omega arith
-text_short text.MoveFilled = omega arith
-text_short text.MoveTranslated = omega arith
-text_short text.MoveTranslatedUntil = omega arith
-text_short text.Compare = omega arith
-text_short text.CompareFilled = omega arith
-text_short text.Locate = omega arith
-text_short text.Skip = omega arith
-text_short text.Scan = omega arith
-text_short text.Span = omega arith
-text_short text.Match = omega arith
-
-call_modest : (i : Call) → AreModest (of_call i)
-call_modest call.WithList = record { wide = ((size_wide size.B).0, (size_wide size.B).1, ((size_wide size.B).0, (size_wide size.B).1, tt)); few = omega arith; short = omega arith }
-call_modest call.WithStack = record { wide = ((size_wide size.L).0, (size_wide size.L).1, ((size_wide size.B).0, (size_wide size.B).1, tt)); few = omega arith; short = omega arith }
-call_modest call.Return = record { wide = tt; few = omega arith; short = omega arith }
-call_modest call.PushRegisters = record { wide = ((size_wide size.W).0, (size_wide size.W).1, tt); few = omega arith; short = omega arith }
-call_modest call.PopRegisters = record { wide = ((size_wide size.W).0, (size_wide size.W).1, tt); few = omega arith; short = omega arith }
+delivery_whole : (how : Delivery) → IsWhole (flow_of_delivery how)
+delivery_whole Entered = tt
+delivery_whole (Ended e) = tt
 
 module _ (Q : List ℕ → ℕ → Accesses Leaf → Type 0) (c : IsClosed Q) where
   -- deliveries
@@ -236,12 +154,7 @@ module _ (Q : List ℕ → ℕ → Accesses Leaf → Type 0) (c : IsClosed Q) wh
   few_parameters : (e : Exception) → length (parameters e) ≤ 9
   unfolding parameters
   few_parameters exception.Privileged = omega arith
-  few_parameters exception.Customer = omega arith
-  few_parameters exception.Operand = omega arith
-  few_parameters exception.Mode = omega arith
-  few_parameters (exception.Access violation) = omega arith
-  few_parameters exception.Breakpoint = omega arith
-  few_parameters (exception.Arithmetic kind) = omega arith
+  few_parameters e = omega arith
 
   no_parameters : length {A = ℕ} [] ≤ 9
   no_parameters = omega arith
@@ -315,11 +228,8 @@ module _ (Q : List ℕ → ℕ → Accesses Leaf → Type 0) (c : IsClosed Q) wh
   module _ (ws : List ℕ) (n : ℕ) (next : Flow → State → Accesses Leaf) (q : (how : Flow) (t : State) → IsWhole how → Q ws n (next how t)) where
     stored_adds : (width value : ℕ) → width ≤ 8 → (o : Operand) (s : State) (m : ℕ) (then_next : State → Accesses Leaf) → ((t : State) → Q ws m (then_next t)) → Q ws (suc m) (stored width o value s then_next)
     unfolding stored
-    stored_adds width value few (operand.Value x) s m then_next r = c.fewer ws m _ (r s)
-    stored_adds width value few (operand.Register k) s m then_next r = c.fewer ws m _ (r _)
     stored_adds width value few (operand.Memory addr) s m then_next r = write_adds Q c ws m addr width value s _ (omega arith) (r s)
-    stored_adds width value few (operand.FieldRegister k) s m then_next r = c.fewer ws m _ (r s)
-    stored_adds width value few (operand.Target addr) s m then_next r = c.fewer ws m _ (r s)
+    stored_adds width value few o s m then_next r = c.fewer ws m _ (r _)
 
     flow_whole : (by_zero : Bool) (codes : Codes) (s : State) → IsWhole (flow_of by_zero codes s)
     unfolding flow_of
@@ -362,15 +272,12 @@ module _ (Q : List ℕ → ℕ → Accesses Leaf → Type 0) (c : IsClosed Q) wh
 
     integer_adds : (i : Integer) (xs : List (Operand × ℕ)) (s : State) → Q ws (suc (suc n)) (of_integers i xs s next)
     unfolding of_integers
-    integer_adds (integer.Unary operation from to) xs s = two_more _ (answered_adds _ (size_wide to).1 _ _ _ s)
-    integer_adds (integer.Two operation z) xs s = two_more _ (answered_adds _ (size_wide (size_of z)).1 _ _ _ s)
-    integer_adds (integer.Three operation z) xs s = two_more _ (answered_adds _ (size_wide (size_of z)).1 _ _ _ s)
-    integer_adds (integer.ByOne operation z) xs s = two_more _ (answered_adds _ (size_wide (size_of z)).1 _ _ _ s)
-    integer_adds (integer.Clear z) xs s = two_more _ (answered_adds _ (size_wide z).1 _ _ _ s)
-    integer_adds (integer.Test z) xs s = none_more _ (settled_adds _ _ s)
-    integer_adds (integer.Compare z) xs s = none_more _ (settled_adds _ _ s)
-    integer_adds (integer.BitTest z) xs s = none_more _ (settled_adds _ _ s)
-    integer_adds (integer.Shift z) xs s = two_more _ (answered_adds _ (size_wide z).1 _ _ _ s)
+    integer_adds (integer.Unary operation from to) xs s = two_more _ (answered_adds _ (size_few to) _ _ _ s)
+    integer_adds (integer.Two operation z) xs s = two_more _ (answered_adds _ (size_few (size_of z)) _ _ _ s)
+    integer_adds (integer.Three operation z) xs s = two_more _ (answered_adds _ (size_few (size_of z)) _ _ _ s)
+    integer_adds (integer.ByOne operation z) xs s = two_more _ (answered_adds _ (size_few (size_of z)) _ _ _ s)
+    integer_adds (integer.Clear z) xs s = two_more _ (answered_adds _ (size_few z) _ _ _ s)
+    integer_adds (integer.Shift z) xs s = two_more _ (answered_adds _ (size_few z) _ _ _ s)
     integer_adds integer.Rotate xs s = two_more _ (answered_adds 4 (omega arith) _ _ _ s)
     integer_adds (integer.MoveAddress z) xs s = two_more _ (answered_adds 4 (omega arith) _ _ _ s)
     integer_adds (integer.PushAddress z) xs s = two_more _ (pushed_result_adds _ s)
@@ -378,10 +285,11 @@ module _ (Q : List ℕ → ℕ → Accesses Leaf → Type 0) (c : IsClosed Q) wh
     integer_adds integer.ExtendedMultiply xs s = two_more _ (answered_adds 8 (omega arith) _ _ _ s)
     integer_adds integer.ExtendedDivide xs s = stored_adds 4 _ (omega arith) _ s (suc n) _ (λ t. stored_adds 4 _ (omega arith) _ t n _ (λ u. settled_adds _ _ u))
     integer_adds integer.Index xs s = two_more _ (stored_adds 4 _ (omega arith) _ s n _ (λ t. q _ _ (subscript_whole _ _ _)))
+    integer_adds i xs s = none_more _ (settled_adds _ _ s)
 
     looped_adds : (z : Size) (o : Operand) (result : ℕ × Codes) (taken : Bool) (target : ℕ) (s : State) → Q ws (suc n) (looped z o result taken target s next)
     unfolding looped
-    looped_adds z o result taken target s = stored_adds (bytes_of z) result.0 (size_wide z).1 o s n _ (λ t. settled_adds _ _ _)
+    looped_adds z o result taken target s = stored_adds (bytes_of z) result.0 (size_few z) o s n _ (λ t. settled_adds _ _ _)
 
     called_adds : (target : ℕ) (s : State) → Q ws (suc n) (called target s next)
     unfolding called
@@ -404,14 +312,8 @@ module _ (Q : List ℕ → ℕ → Accesses Leaf → Type 0) (c : IsClosed Q) wh
     control_adds control.JumpSubroutine xs s = two_more _ (called_adds _ s)
     control_adds control.Return xs s = two_more _ (return_adds s)
     control_adds (control.LowBit set) xs s = none_more _ (q flow.Done _ tt)
-    control_adds (control.AddOne r) xs s = two_more _ (looped_adds _ _ _ _ _ s)
-    control_adds (control.SubtractOne r) xs s = two_more _ (looped_adds _ _ _ _ _ s)
-    control_adds (control.AddCompare z) xs s = two_more _ (looped_adds _ _ _ _ _ s)
     control_adds (control.Case z) xs s = two_more _ (chosen_adds _ _ _ s)
-
-    delivery_whole : (how : Delivery) → IsWhole (flow_of_delivery how)
-    delivery_whole Entered = tt
-    delivery_whole (Ended e) = tt
+    control_adds i xs s = two_more _ (looped_adds _ _ _ _ _ s)
 
     return_from_adds : (pc : ℕ) (psl : Psl) (s : State) → Q ws n (return_from pc psl s next)
     unfolding return_from
@@ -457,11 +359,8 @@ module _ (Q : List ℕ → ℕ → Accesses Leaf → Type 0) (c : IsClosed Q) wh
 
     value_adds : (width : ℕ) → width ≤ 8 → (o : Operand) (s : State) (m : ℕ) (then_next : ℕ → State → Accesses Leaf) → ((x : ℕ) → Q ws m (then_next x s)) → Q ws (suc m) (value_at width o s then_next)
     unfolding value_at
-    value_adds width few (operand.Value x) s m then_next r = c.fewer ws m _ (r _)
-    value_adds width few (operand.Register k) s m then_next r = c.fewer ws m _ (r _)
     value_adds width few (operand.Memory addr) s m then_next r = read_adds Q c ws m addr width s _ (omega arith) r
-    value_adds width few (operand.FieldRegister k) s m then_next r = c.fewer ws m _ (r _)
-    value_adds width few (operand.Target addr) s m then_next r = c.fewer ws m _ (r _)
+    value_adds width few o s m then_next r = c.fewer ws m _ (r _)
 
     bits_add : (position size : ℕ) (base : Operand) (s : State) (m : ℕ) (then_next : List Bool → State → Accesses Leaf) → ((bits : List Bool) → Q ws m (then_next bits s)) → Q ws (suc m) (field_bits position size base s then_next)
     unfolding field_bits held
@@ -554,36 +453,14 @@ module _ (Q : List ℕ → ℕ → Accesses Leaf → Type 0) (c : IsClosed Q) wh
 
   -- a whole instruction, whose operands lie in the window at PC or have ranges of their own
   module _ (w : ℕ) (ws : List ℕ) (n : ℕ) (next : Flow → State → Accesses Leaf) (q : (how : Flow) (t : State) → IsWhole how → Q (w ∷ ws) n (next how t)) where
-    listed_adds : (kinds : List OperandKind) → AreModest kinds → (s : State) (count : ℕ) → count ≤ 1 → IsPcNear s w count → (rest : List (Operand × ℕ) → State → Accesses Leaf) →
-        ((xs : List (Operand × ℕ)) (t : State) → Q (w ∷ ws) (suc (suc n)) (rest xs t)) → Q (w ∷ ws) (n + 13) (next_operands kinds s rest)
-    listed_adds kinds modest s count here p rest r =
-        let few : costs kinds ≤ 11 = modest.few in
+    -- by what the instruction takes: the ranges of its operands, and those of its work
+    listed_adds : (most m : ℕ) → most + m ≤ n + 13 → (kinds : List OperandKind) → AreModest most kinds → (s : State) (count : ℕ) → count ≤ 1 → IsPcNear s w count → (rest : List (Operand × ℕ) → State → Accesses Leaf) →
+        ((xs : List (Operand × ℕ)) (t : State) → Q (w ∷ ws) m (rest xs t)) → (tree : Accesses Leaf) → tree ≡ next_operands kinds s rest → Q (w ∷ ws) (n + 13) tree
+    listed_adds most m room kinds modest s count here p rest r tree takes =
+        let few : costs kinds ≤ most = modest.few in
         let short : length kinds ≤ 6 = modest.short in
-        at_most Q c _ (costs kinds + suc (suc n)) _ _ (omega arith) (operands_add Q c w ws (suc (suc n)) kinds modest.wide s count (omega arith) p rest r)
-
-    -- the same where the work has five ranges
-    listed_by_five : (kinds : List OperandKind) → AreWide kinds → costs kinds ≤ 8 → length kinds ≤ 6 → (s : State) (count : ℕ) → count ≤ 1 → IsPcNear s w count → (rest : List (Operand × ℕ) → State → Accesses Leaf) →
-        ((xs : List (Operand × ℕ)) (t : State) → Q (w ∷ ws) (suc (suc (suc (suc (suc n))))) (rest xs t)) → Q (w ∷ ws) (n + 13) (next_operands kinds s rest)
-    listed_by_five kinds wide few short s count here p rest r =
-        at_most Q c _ (costs kinds + suc (suc (suc (suc (suc n))))) _ _ (omega arith) (operands_add Q c w ws (suc (suc (suc (suc (suc n))))) kinds wide s count (omega arith) p rest r)
-
-    -- the same where the work has four
-    listed_by_four : (kinds : List OperandKind) → AreWide kinds → costs kinds ≤ 9 → length kinds ≤ 6 → (s : State) (count : ℕ) → count ≤ 1 → IsPcNear s w count → (rest : List (Operand × ℕ) → State → Accesses Leaf) →
-        ((xs : List (Operand × ℕ)) (t : State) → Q (w ∷ ws) (suc (suc (suc (suc n)))) (rest xs t)) → Q (w ∷ ws) (n + 13) (next_operands kinds s rest)
-    listed_by_four kinds wide few short s count here p rest r =
-        at_most Q c _ (costs kinds + suc (suc (suc (suc n)))) _ _ (omega arith) (operands_add Q c w ws (suc (suc (suc (suc n)))) kinds wide s count (omega arith) p rest r)
-
-    integer_acts : (i : Integer) (s : State) (count : ℕ) → count ≤ 1 → IsPcNear s w count → Q (w ∷ ws) (n + 13) (integer_performed i s next)
-    integer_acts i s count here p =
-        subst (λ tree. Q (w ∷ ws) (n + 13) tree) (sym (integer_takes i s next)) (listed_adds (of_integer i) (integer_modest i) s count here p _ (λ xs t. integer_adds (w ∷ ws) n next q i xs t))
-
-    control_acts : (i : Control) (s : State) (count : ℕ) → count ≤ 1 → IsPcNear s w count → Q (w ∷ ws) (n + 13) (control_performed i s next)
-    control_acts i s count here p =
-        subst (λ tree. Q (w ∷ ws) (n + 13) tree) (sym (control_takes i s next)) (listed_adds (of_control i) (control_modest i) s count here p _ (λ xs t. control_adds (w ∷ ws) n next q i xs t))
-
-    field_acts : (i : Field) (s : State) (count : ℕ) → count ≤ 1 → IsPcNear s w count → Q (w ∷ ws) (n + 13) (field_performed i s next)
-    field_acts i s count here p =
-        subst (λ tree. Q (w ∷ ws) (n + 13) tree) (sym (field_takes i s next)) (listed_adds (of_field i) (field_modest i) s count here p _ (λ xs t. field_adds (w ∷ ws) n next q i xs t))
+        subst (λ tree. Q (w ∷ ws) (n + 13) tree) (sym takes)
+        (at_most Q c _ (costs kinds + m) _ _ (omega arith) (operands_add Q c w ws m kinds modest.wide s count (omega arith) p rest r))
 
     allowed_adds : (privileged : Bool) (s : State) (m : ℕ) (tree : Accesses Leaf) → Q (w ∷ ws) m tree → Q (w ∷ ws) m (unless_privileged privileged s tree)
     allowed_adds false s m tree r = r
@@ -592,43 +469,31 @@ module _ (Q : List ℕ → ℕ → Accesses Leaf → Type 0) (c : IsClosed Q) wh
     system_acts : (i : System) (s : State) (count : ℕ) → count ≤ 1 → IsPcNear s w count → Q (w ∷ ws) (n + 13) (system_performed i s next)
     system_acts i s count here p =
         subst (λ tree. Q (w ∷ ws) (n + 13) tree) (sym (system_takes i s next))
-        (allowed_adds (is_for_kernel i) s _ _ (listed_adds (of_system i) (system_modest i) s count here p _ (λ xs t. system_adds (w ∷ ws) n next q i xs t)))
-
-    queue_acts : (i : Queue) (s : State) (count : ℕ) → count ≤ 1 → IsPcNear s w count → Q (w ∷ ws) (n + 13) (queue_performed i s next)
-    queue_acts i s count here p =
-        subst (λ tree. Q (w ∷ ws) (n + 13) tree) (sym (queue_takes i s next)) (listed_by_five (of_queue i) (queue_wide i) (queue_few i) (queue_short i) s count here p _ (λ xs t. queue_adds (w ∷ ws) n next q i xs t))
-
-    call_acts : (i : Call) (s : State) (count : ℕ) → count ≤ 1 → IsPcNear s w count → Q (w ∷ ws) (n + 13) (call_performed i s next)
-    call_acts i s count here p =
-        subst (λ tree. Q (w ∷ ws) (n + 13) tree) (sym (call_takes i s next)) (listed_adds (of_call i) (call_modest i) s count here p _ (λ xs t. call_adds (w ∷ ws) n next q i xs t))
+        (allowed_adds (is_for_kernel i) s _ _ (listed_adds 11 (suc (suc n)) (omega arith) (of_system i) (system_modest i) s count here p _ (λ xs t. system_adds (w ∷ ws) n next q i xs t) _ refl))
 
     -- an instruction that is no string instruction
     pub acted_adds : (a : Action) → is_string a ≡ false → (s : State) (count : ℕ) → count ≤ 1 → IsPcNear s w count → Q (w ∷ ws) (n + 13) (acted a s next)
     unfolding acted
-    acted_adds (action.Integer i) other s count here p = integer_acts i s count here p
-    acted_adds (action.Control i) other s count here p = control_acts i s count here p
-    acted_adds (action.Field i) other s count here p = field_acts i s count here p
-    acted_adds (action.Call i) other s count here p = call_acts i s count here p
-    acted_adds (action.Queue i) other s count here p = queue_acts i s count here p
+    acted_adds (action.Integer i) other s count here p =
+        listed_adds 11 (suc (suc n)) (omega arith) (of_integer i) (integer_modest i) s count here p _ (λ xs t. integer_adds (w ∷ ws) n next q i xs t) _ (integer_takes i s next)
+    acted_adds (action.Control i) other s count here p =
+        listed_adds 11 (suc (suc n)) (omega arith) (of_control i) (control_modest i) s count here p _ (λ xs t. control_adds (w ∷ ws) n next q i xs t) _ (control_takes i s next)
+    acted_adds (action.Field i) other s count here p =
+        listed_adds 11 (suc (suc n)) (omega arith) (of_field i) (field_modest i) s count here p _ (λ xs t. field_adds (w ∷ ws) n next q i xs t) _ (field_takes i s next)
+    acted_adds (action.Call i) other s count here p =
+        listed_adds 11 (suc (suc n)) (omega arith) (of_call i) (call_modest i) s count here p _ (λ xs t. call_adds (w ∷ ws) n next q i xs t) _ (call_takes i s next)
+    acted_adds (action.Queue i) other s count here p =
+        listed_adds 8 (suc (suc (suc (suc (suc n))))) (omega arith) (of_queue i) (queue_modest i) s count here p _ (λ xs t. queue_adds (w ∷ ws) n next q i xs t) _ (queue_takes i s next)
     acted_adds (action.System i) other s count here p = system_acts i s count here p
     acted_adds (action.Text i) other s count here p = absurd (cc)
 
     -- the first part of a string instruction has four windows for its work
     module _ (more : (opcode units : ℕ) (t : State) → Q (w ∷ ws) n (next (flow.More opcode units) t)) where
-      text_acts : (t : Text) (s : State) (count : ℕ) → count ≤ 1 → IsPcNear s w count → Q (w ∷ ws) (n + 13) (text_part t s next)
-      text_acts t s count here p =
-          subst (λ tree. Q (w ∷ ws) (n + 13) tree) (sym (part_takes t s next)) (listed_by_four (of_text t) (text_wide t) (text_few t) (text_short t) s count here p _ (λ xs u.
-          first_by_adds Q c (w ∷ ws) n next (λ v. q flow.Done v tt) more t _ _))
-
       acted_part_adds : (a : Action) (s : State) (count : ℕ) → count ≤ 1 → IsPcNear s w count → Q (w ∷ ws) (n + 13) (acted_part a s next)
-      unfolding acted_part
-      acted_part_adds (action.Integer i) s count here p = integer_acts i s count here p
-      acted_part_adds (action.Control i) s count here p = control_acts i s count here p
-      acted_part_adds (action.Field i) s count here p = field_acts i s count here p
-      acted_part_adds (action.Call i) s count here p = call_acts i s count here p
-      acted_part_adds (action.Queue i) s count here p = queue_acts i s count here p
-      acted_part_adds (action.System i) s count here p = system_acts i s count here p
-      acted_part_adds (action.Text i) s count here p = text_acts i s count here p
+      unfolding acted_part acted
+      acted_part_adds (action.Text t) s count here p = listed_adds 9 (suc (suc (suc (suc n)))) (omega arith) (of_text t) (text_modest t) s count here p _ (λ xs u.
+          first_by_adds Q c (w ∷ ws) n next (λ v. q flow.Done v tt) more t _ _) _ (part_takes t s next)
+      acted_part_adds a s count here p = acted_adds a refl s count here p
 
       acted_part_if_adds : (a : Option Action) (s : State) (count : ℕ) → count ≤ 1 → IsPcNear s w count → Q (w ∷ ws) (n + 13) (acted_part_if a s next)
       unfolding acted_part_if
@@ -642,12 +507,8 @@ module _ (Q : List ℕ → ℕ → Accesses Leaf → Type 0) (c : IsClosed Q) wh
       (fetched_adds Q c (register s 15) ws (n + 13) 1 0 s _ (omega arith) (omega arith) (near_here s) (λ opcode t near.
       acted_part_if_adds (register s 15) ws n next (λ how u whole. c.wider _ ws n _ (q how u whole)) (λ o units u. c.wider _ ws n _ (more o units u)) (action_of opcode) t (0 + 1) (omega arith) near))
 
-  handler_whole : (how : Delivery) → IsWhole (flow_of_delivery how)
-  handler_whole Entered = tt
-  handler_whole (Ended e) = tt
-
   pub interrupt_begins : (ws : List ℕ) (n : ℕ) (next : Flow → State → Accesses Leaf) → ((how : Flow) (t : State) → IsWhole how → Q ws n (next how t)) → (level : ℕ) (s : State) → Q ws (suc (suc n)) (interrupt level s (λ how s. next (flow_of_delivery how) s))
-  interrupt_begins ws n next q level s = interrupt_adds ws n _ (λ how t. q (flow_of_delivery how) t (handler_whole how)) level s
+  interrupt_begins ws n next q level s = interrupt_adds ws n _ (λ how t. q (flow_of_delivery how) t (delivery_whole how)) level s
 
   begun_part_adds : (ws : List ℕ) (n : ℕ) (next : Flow → State → Accesses Leaf) → ((how : Flow) (t : State) → IsWhole how → Q ws n (next how t)) → ((opcode units : ℕ) (t : State) → Q ws n (next (flow.More opcode units) t)) → (s : State) → Q ws (suc (n + 13)) (begun_part s next)
   unfolding begun_part

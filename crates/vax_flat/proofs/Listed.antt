@@ -122,34 +122,12 @@ of_controls (control.Case size) xs s next = chosen (size_of size) (difference (s
 pub integer_takes : (i : Integer) (s : State) (next : Flow → State → Accesses Leaf) → integer_performed i s next ≡ next_operands (of_integer i) s (λ xs s. of_integers i xs s next)
 unfolding integer_performed unary two three by_one clear test_value compare bit_test shift rotate move_address push_address push extended_multiply extended_divide index read_value modify_value write_place address_value next_operands taken of_integers
 integer_takes (integer.Unary operation from to) s next = refl
-integer_takes (integer.Two operation size) s next = refl
-integer_takes (integer.Three operation size) s next = refl
-integer_takes (integer.ByOne operation size) s next = refl
-integer_takes (integer.Clear size) s next = refl
-integer_takes (integer.Test size) s next = refl
-integer_takes (integer.Compare size) s next = refl
-integer_takes (integer.BitTest size) s next = refl
-integer_takes (integer.Shift size) s next = refl
-integer_takes integer.Rotate s next = refl
-integer_takes (integer.MoveAddress size) s next = refl
-integer_takes (integer.PushAddress size) s next = refl
-integer_takes integer.Push s next = refl
-integer_takes integer.ExtendedMultiply s next = refl
-integer_takes integer.ExtendedDivide s next = refl
-integer_takes integer.Index s next = refl
+integer_takes i s next = refl
 
 pub control_takes : (c : Control) (s : State) (next : Flow → State → Accesses Leaf) → control_performed c s next ≡ next_operands (of_control c) s (λ xs s. of_controls c xs s next)
 unfolding control_performed branch branch_subroutine jump jump_subroutine low_bit add_one subtract_one add_compare case_of read_value modify_value address_value branch_target next_operands taken of_controls
 control_takes (control.Branch condition size) s next = refl
-control_takes (control.BranchSubroutine size) s next = refl
-control_takes control.Jump s next = refl
-control_takes control.JumpSubroutine s next = refl
-control_takes control.Return s next = refl
-control_takes (control.LowBit set) s next = refl
-control_takes (control.AddOne r) s next = refl
-control_takes (control.SubtractOne r) s next = refl
-control_takes (control.AddCompare size) s next = refl
-control_takes (control.Case size) s next = refl
+control_takes c s next = refl
 
 -- what a system instruction does behind its last operand
 unfoldable pub of_systems : System → Rest
@@ -170,17 +148,7 @@ of_systems system.ClearStatus xs s next = status_cleared (value 0 xs) s next
 pub system_takes : (i : System) (s : State) (next : Flow → State → Accesses Leaf) → system_performed i s next ≡ unless_privileged (is_for_kernel i) s (next_operands (of_system i) s (λ xs s. of_systems i xs s next))
 unfolding system_performed halt change_of_mode probe to_register from_register move_status set_status clear_status read_value write_place address_value next_operands taken of_systems
 system_takes system.Halt s next = refl
-system_takes system.NoOperation s next = refl
-system_takes system.Breakpoint s next = refl
-system_takes system.Customer s next = refl
-system_takes system.Return s next = refl
-system_takes (system.ChangeMode target) s next = refl
-system_takes (system.Probe writing) s next = refl
-system_takes system.ToRegister s next = refl
-system_takes system.FromRegister s next = refl
-system_takes system.MoveStatus s next = refl
-system_takes system.SetStatus s next = refl
-system_takes system.ClearStatus s next = refl
+system_takes i s next = refl
 
 -- what a queue instruction does behind its last operand
 unfoldable pub of_queues : Queue → Rest
@@ -191,8 +159,7 @@ of_queues queue.AddAligned xs s next = aligned_sum (value 0 xs) (place 1 xs) (va
 pub queue_takes : (i : Queue) (s : State) (next : Flow → State → Accesses Leaf) → queue_performed i s next ≡ next_operands (of_queue i) s (λ xs s. of_queues i xs s next)
 unfolding queue_performed insert remove add_aligned read_value modify_value write_place address_value next_operands taken of_queues
 queue_takes queue.Insert s next = refl
-queue_takes queue.Remove s next = refl
-queue_takes queue.AddAligned s next = refl
+queue_takes i s next = refl
 
 -- what a call, or a push or pop of registers, does behind its last operand
 unfoldable pub of_calls : Call → Rest
@@ -205,10 +172,7 @@ of_calls call.PopRegisters xs s next = registers_popped (value 0 xs) s next
 pub call_takes : (i : Call) (s : State) (next : Flow → State → Accesses Leaf) → call_performed i s next ≡ next_operands (of_call i) s (λ xs s. of_calls i xs s next)
 unfolding call_performed call_with_list call_with_stack push_registers pop_registers read_value address_value next_operands taken of_calls
 call_takes call.WithList s next = refl
-call_takes call.WithStack s next = refl
-call_takes call.Return s next = refl
-call_takes call.PushRegisters s next = refl
-call_takes call.PopRegisters s next = refl
+call_takes i s next = refl
 
 -- what a field instruction does behind its last operand
 unfoldable pub of_fields : Field → Rest
@@ -221,10 +185,7 @@ of_fields (field.Branch set becomes) xs s next = branched_on set becomes (value 
 pub field_takes : (i : Field) (s : State) (next : Flow → State → Accesses Leaf) → field_performed i s next ≡ next_operands (of_field i) s (λ xs s. of_fields i xs s next)
 unfolding field_performed extract compare_field insert_field find_first branch_on_bit base_place read_value write_place branch_target next_operands taken of_fields
 field_takes (field.Extract signed) s next = refl
-field_takes (field.Compare signed) s next = refl
-field_takes field.Insert s next = refl
-field_takes (field.FindFirst set) s next = refl
-field_takes (field.Branch set becomes) s next = refl
+field_takes i s next = refl
 
 -- the progress at the start of a string instruction, from the state before its operands, its operands and the state behind them
 unfoldable pub begins : Text → State → List (Operand × ℕ) → State → Progress
@@ -271,30 +232,12 @@ first_by text.Match p s next = match_part p s next
 pub text_takes : (t : Text) (s : State) (next : Flow → State → Accesses Leaf) → text_whole t s next ≡ next_operands (of_text t) s (λ xs u. whole_by t (begins t s xs u) (begun u) next)
 unfolding text_whole search_operands scan_operands equal_operands filled_operands translated_operands match_operands next_word next_byte next_longword read_value address_value next_operands taken begins whole_by
 text_takes text.Move s next = refl
-text_takes text.MoveFilled s next = refl
-text_takes text.MoveTranslated s next = refl
-text_takes text.MoveTranslatedUntil s next = refl
-text_takes text.Compare s next = refl
-text_takes text.CompareFilled s next = refl
-text_takes text.Locate s next = refl
-text_takes text.Skip s next = refl
-text_takes text.Scan s next = refl
-text_takes text.Span s next = refl
-text_takes text.Match s next = refl
+text_takes t s next = refl
 
 pub part_takes : (t : Text) (s : State) (next : Flow → State → Accesses Leaf) → text_part t s next ≡ next_operands (of_text t) s (λ xs u. first_by t (begins t s xs u) (begun u) next)
 unfolding text_part first_search first_scan first_compare first_compare_filled first_move first_move_filled first_move_translated first_escape first_match search_operands scan_operands equal_operands filled_operands translated_operands match_operands next_word next_byte next_longword read_value address_value next_operands taken begins first_by
 part_takes text.Move s next = refl
-part_takes text.MoveFilled s next = refl
-part_takes text.MoveTranslated s next = refl
-part_takes text.MoveTranslatedUntil s next = refl
-part_takes text.Compare s next = refl
-part_takes text.CompareFilled s next = refl
-part_takes text.Locate s next = refl
-part_takes text.Skip s next = refl
-part_takes text.Scan s next = refl
-part_takes text.Span s next = refl
-part_takes text.Match s next = refl
+part_takes t s next = refl
 
 pub action_takes : (a : Action) → Takes (is_privileged a) (operands_of a) (acted a)
 unfolding acted

@@ -231,6 +231,33 @@ module _ (addr len d page : ℕ) (ps : List ℕ) (ends : addr + len ≤ 2 ^ 32) 
 
 -- ---- CMPC3, CMPC5
 
+-- one of the strings: the page of its next byte, if it has one
+module _ (addr len d : ℕ) where
+  abbrev one : Rest
+  one = behind d (record { len = len; addr = addr })
+
+  first_there : d < len → page_in addr len (d + 0) ≡ page_of (plus addr d) ∷ []
+  first_there h = let same : d + 0 ≡ d = omega arith in rw (same, lt-ltb d len h) refl
+
+  page_is : d < len → first_page one ≡ page_of (plus addr d)
+  page_is h = let e : plus addr (min d len) ≡ plus addr d = omega arith in rw (ne_eqb (len - d) 0 (λ z. omega arith)) (ap page_of e)
+
+  -- the page beside another's is among those needed
+  beside : (ps : List ℕ) (page : ℕ) → page < 2 ^ 23 → (d < len → IsAmong (page_of (plus addr d)) ps) → first_page one ≡ page + 1 → IsAmong (first_page one) ps
+  beside ps page low own e =
+      elim (cases_lt d len) [
+        | inl here ↦ subst (λ q. IsAmong q ps) (sym (page_is here)) (own here)
+        | inr over ↦ let none : first_page one ≡ 2 ^ 23 + 1 = rw (eq-eqb (len - d) 0 (omega arith)) refl in absurd (omega arith)
+      ]
+
+  -- no other is
+  of_one : (q : ℕ) → IsAmong q (page_in addr len (d + 0)) → (d < len) × (q ≡ page_of (plus addr d))
+  of_one q among =
+      elim (cases_lt d len) [
+        | inl here ↦ let m : IsAmong q (page_of (plus addr d) ∷ []) = rw (first_there here) at among in (here, elim m [ inl e ↦ e | inr bad ↦ absurd bad ])
+        | inr over ↦ let same : d + 0 ≡ d = omega arith in let m : IsAmong q [] = rw (same, le-ltb d len over) at among in absurd m
+      ]
+
 module _ (p : Progress) (plain : IsPlain p) (more : compare_room p ≢ pairs_of p - p.done) (left_some : pairs_of p - p.done ≢ 0) where
   abbrev a : Rest
   a = behind p.done (first_of p)
@@ -241,75 +268,26 @@ module _ (p : Progress) (plain : IsPlain p) (more : compare_room p ≢ pairs_of 
   abbrev ps : List ℕ
   ps = compare_needs p 0
 
-  zero_more : (x : ℕ) → x + 0 ≡ x
-  zero_more x = omega arith
-
   -- the pages of the first pair
-  first_there : p.done < p.len1 → page_in p.addr1 p.len1 (p.done + 0) ≡ page_of (plus p.addr1 p.done) ∷ []
-  first_there h = rw (zero_more p.done, lt-ltb p.done p.len1 h) refl
-
-  second_there : p.done < p.len2 → page_in p.addr2 p.len2 (p.done + 0) ≡ page_of (plus p.addr2 p.done) ∷ []
-  second_there h = rw (zero_more p.done, lt-ltb p.done p.len2 h) refl
-
   first_among : p.done < p.len1 → IsAmong (page_of (plus p.addr1 p.done)) ps
-  first_among h = among_left _ (page_in p.addr1 p.len1 (p.done + 0)) (page_in p.addr2 p.len2 (p.done + 0)) (rw (first_there h) (inl refl))
+  first_among h = among_left _ (page_in p.addr1 p.len1 (p.done + 0)) (page_in p.addr2 p.len2 (p.done + 0)) (rw (first_there p.addr1 p.len1 p.done h) (inl refl))
 
   second_among : p.done < p.len2 → IsAmong (page_of (plus p.addr2 p.done)) ps
-  second_among h = among_right _ (page_in p.addr1 p.len1 (p.done + 0)) (page_in p.addr2 p.len2 (p.done + 0)) (rw (second_there h) (inl refl))
-
-  page_b : p.done < p.len2 → first_page b ≡ page_of (plus p.addr2 p.done)
-  page_b h = let e : plus p.addr2 (min p.done p.len2) ≡ plus p.addr2 p.done = omega arith in rw (ne_eqb (p.len2 - p.done) 0 (λ z. omega arith)) (ap page_of e)
-
-  page_a : p.done < p.len1 → first_page a ≡ page_of (plus p.addr1 p.done)
-  page_a h = let e : plus p.addr1 (min p.done p.len1) ≡ plus p.addr1 p.done = omega arith in rw (ne_eqb (p.len1 - p.done) 0 (λ z. omega arith)) (ap page_of e)
-
-  none_b : p.len2 ≤ p.done → first_page b ≡ 2 ^ 23 + 1
-  none_b h = rw (eq-eqb (p.len2 - p.done) 0 (omega arith)) refl
-
-  none_a : p.len1 ≤ p.done → first_page a ≡ 2 ^ 23 + 1
-  none_a h = rw (eq-eqb (p.len1 - p.done) 0 (omega arith)) refl
-
-  beside_a : p.done < p.len1 → first_page b ≡ page_of (plus p.addr1 p.done) + 1 → IsAmong (first_page b) ps
-  beside_a h e =
-      elim (cases_lt p.done p.len2) [
-        | inl here ↦ subst (λ q. IsAmong q ps) (sym (page_b here)) (second_among here)
-        | inr over ↦ let n = none_b over in absurd (omega arith)
-      ]
-
-  beside_b : p.done < p.len2 → first_page a ≡ page_of (plus p.addr2 p.done) + 1 → IsAmong (first_page a) ps
-  beside_b h e =
-      elim (cases_lt p.done p.len1) [
-        | inl here ↦ subst (λ q. IsAmong q ps) (sym (page_a here)) (first_among here)
-        | inr over ↦ let n = none_a over in absurd (omega arith)
-      ]
+  second_among h = among_right _ (page_in p.addr1 p.len1 (p.done + 0)) (page_in p.addr2 p.len2 (p.done + 0)) (rw (first_there p.addr2 p.len2 p.done h) (inl refl))
 
   -- no others are
-  of_first : (q : ℕ) → IsAmong q (page_in p.addr1 p.len1 (p.done + 0)) → (p.done < p.len1) × (q ≡ page_of (plus p.addr1 p.done))
-  of_first q among =
-      elim (cases_lt p.done p.len1) [
-        | inl here ↦ let m : IsAmong q (page_of (plus p.addr1 p.done) ∷ []) = rw (first_there here) at among in (here, elim m [ inl e ↦ e | inr bad ↦ absurd bad ])
-        | inr over ↦ let m : IsAmong q [] = rw (zero_more p.done, le-ltb p.done p.len1 over) at among in absurd m
-      ]
-
-  of_second : (q : ℕ) → IsAmong q (page_in p.addr2 p.len2 (p.done + 0)) → (p.done < p.len2) × (q ≡ page_of (plus p.addr2 p.done))
-  of_second q among =
-      elim (cases_lt p.done p.len2) [
-        | inl here ↦ let m : IsAmong q (page_of (plus p.addr2 p.done) ∷ []) = rw (second_there here) at among in (here, elim m [ inl e ↦ e | inr bad ↦ absurd bad ])
-        | inr over ↦ let m : IsAmong q [] = rw (zero_more p.done, le-ltb p.done p.len2 over) at among in absurd m
-      ]
-
   only_a : (q : ℕ) → IsAmong q ps → ((p.done < p.len1) × (q ≡ page_of (plus p.addr1 p.done))) ⊎ (q ≡ first_page b)
   only_a q among =
       elim (among_either q (page_in p.addr1 p.len1 (p.done + 0)) (page_in p.addr2 p.len2 (p.done + 0)) among) [
-        | inl one ↦ inl (of_first q one)
-        | inr two ↦ let o = of_second q two in inr (o.1 ∙ sym (page_b o.0))
+        | inl own ↦ inl (of_one p.addr1 p.len1 p.done q own)
+        | inr far ↦ let o = of_one p.addr2 p.len2 p.done q far in inr (o.1 ∙ sym (page_is p.addr2 p.len2 p.done o.0))
       ]
 
   only_b : (q : ℕ) → IsAmong q ps → ((p.done < p.len2) × (q ≡ page_of (plus p.addr2 p.done))) ⊎ (q ≡ first_page a)
   only_b q among =
       elim (among_either q (page_in p.addr1 p.len1 (p.done + 0)) (page_in p.addr2 p.len2 (p.done + 0)) among) [
-        | inl one ↦ let o = of_first q one in inr (o.1 ∙ sym (page_a o.0))
-        | inr two ↦ inl (of_second q two)
+        | inl far ↦ let o = of_one p.addr1 p.len1 p.done q far in inr (o.1 ∙ sym (page_is p.addr1 p.len1 p.done o.0))
+        | inr own ↦ inl (of_one p.addr2 p.len2 p.done q own)
       ]
 
   bounds : (n ra rb : ℕ) → min (min 512 n) (min ra rb) ≢ n → n ≢ 0 → (min (min 512 n) (min ra rb) ≤ 512) × ((min (min 512 n) (min ra rb) ≡ 512) ⊎ (((min (min 512 n) (min ra rb) ≡ ra) × (ra < 512)) ⊎ ((min (min 512 n) (min ra rb) ≡ rb) × (rb < 512))))
@@ -332,8 +310,8 @@ module _ (p : Progress) (plain : IsPlain p) (more : compare_room p ≢ pairs_of 
         few = is.0;
         near = λ j h.
             all_joined (page_in p.addr1 p.len1 (p.done + j)) (page_in p.addr2 p.len2 (p.done + j)) ps
-            (near_one p.addr1 p.len1 p.done (first_page b) ps plain.first j first_among beside_a (omega arith))
-            (near_one p.addr2 p.len2 p.done (first_page a) ps plain.second j second_among beside_b (omega arith));
+            (near_one p.addr1 p.len1 p.done (first_page b) ps plain.first j first_among (λ h e. beside p.addr2 p.len2 p.done ps (page_of (plus p.addr1 p.done)) (omega arith) second_among e) (omega arith))
+            (near_one p.addr2 p.len2 p.done (first_page a) ps plain.second j second_among (λ h e. beside p.addr1 p.len1 p.done ps (page_of (plus p.addr2 p.done)) (omega arith) first_among e) (omega arith));
         full =
             elim is.1 [
               | inl top ↦ inl top
@@ -433,54 +411,74 @@ some_down : (x page : ℕ) → 1 ≤ room_down x page
 unfolding room_down
 some_down x page = elim (cases_Bool (x / 512 == page + 1)) [ inl so ↦ rw so (omega arith) | inr isnt ↦ rw isnt (omega arith) ]
 
--- upward from two addresses, so many units at most
-module _ (x y n : ℕ) (needs : ℕ → List ℕ) (turns : ℕ → Bool) (some : n ≢ 0) (needs_at : (j : ℕ) → j < n → needs j ≡ (x + j) / 512 ∷ (y + j) / 512 ∷ []) (turned : (k : ℕ) → k ≡ n → turns k ≡ true) where
-  abbrev pub rooms_up : ℕ
-  rooms_up = min (min 512 n) (min (room_up x (y / 512)) (room_up y (x / 512)))
+-- so many units from an address are in its page or in another, and the unit behind them is in neither
+record Reaches (n room own other : ℕ) (page : ℕ → ℕ) : Type 0 where
+  some : 1 ≤ room
+  begins : page 0 ≡ own
+  near : (j : ℕ) → j < n → j < room → (page j ≡ own) ⊎ (page j ≡ other)
+  past : room < 512 → room < n → (page room ≡ own → ⊥) × (page room ≡ other → ⊥)
 
-  first_up : needs 0 ≡ x / 512 ∷ y / 512 ∷ []
-  first_up =
-      let e1 : x + 0 ≡ x = omega arith in
-      let e2 : y + 0 ≡ y = omega arith in
-      needs_at 0 (omega arith) ∙ (λ i. e1 i / 512 ∷ e2 i / 512 ∷ [])
+up_reaches : (n x page : ℕ) → Reaches n (room_up x page) (x / 512) page (λ j. (x + j) / 512)
+up_reaches n x page = record {
+  some = some_up x page;
+  begins = omega arith;
+  near = λ j inside low. elim (reach x page j low) [ inl same ↦ inl same | inr next ↦ inr next.0 ];
+  past = λ less inside. past x page less;
+}
 
-  beyond_up : ((rooms_up ≡ room_up x (y / 512)) × (room_up x (y / 512) < 512)) ⊎ ((rooms_up ≡ room_up y (x / 512)) × (room_up y (x / 512) < 512)) → rooms_up < n → AreAmong (needs rooms_up) (needs 0) → ⊥
-  beyond_up (inl first) inside among =
-      let a : AreAmong ((x + rooms_up) / 512 ∷ (y + rooms_up) / 512 ∷ []) (x / 512 ∷ y / 512 ∷ []) =
-      subst (λ ps. AreAmong ((x + rooms_up) / 512 ∷ (y + rooms_up) / 512 ∷ []) ps) first_up (subst (λ qs. AreAmong qs (needs 0)) (needs_at rooms_up inside) among) in
-      let out = past x (y / 512) first.1 in
-      let e : (x + rooms_up) / 512 ≡ (x + room_up x (y / 512)) / 512 = ap (λ k. (x + k) / 512) first.0 in
-      neither_page _ _ _ (λ h. out.0 (sym e ∙ h)) (λ h. out.1 (sym e ∙ h)) a.0
-  beyond_up (inr second) inside among =
-      let a : AreAmong ((x + rooms_up) / 512 ∷ (y + rooms_up) / 512 ∷ []) (x / 512 ∷ y / 512 ∷ []) =
-      subst (λ ps. AreAmong ((x + rooms_up) / 512 ∷ (y + rooms_up) / 512 ∷ []) ps) first_up (subst (λ qs. AreAmong qs (needs 0)) (needs_at rooms_up inside) among) in
-      let out = past y (x / 512) second.1 in
-      let e : (y + rooms_up) / 512 ≡ (y + room_up y (x / 512)) / 512 = ap (λ k. (y + k) / 512) second.0 in
-      neither_page _ _ _ (λ h. out.1 (sym e ∙ h)) (λ h. out.0 (sym e ∙ h)) a.1.0
+down_reaches : (n x page : ℕ) → n ≤ x + 1 → Reaches n (room_down x page) (x / 512) page (λ j. (x - j) / 512)
+down_reaches n x page low = record {
+  some = some_down x page;
+  begins = omega arith;
+  near = λ j inside less. reach_down x page j (omega arith) less;
+  past = λ less inside. past_down x page less (omega arith);
+}
 
-  pub maximal_up : IsMaximal needs turns rooms_up
-  maximal_up =
-      let l = least n (room_up x (y / 512)) (room_up y (x / 512)) some (some_up x (y / 512)) (some_up y (x / 512)) in
+-- from two addresses, so many units at most
+module _ (n ra rb own other : ℕ) (px py : ℕ → ℕ) (a : Reaches n ra own other px) (b : Reaches n rb other own py) (needs : ℕ → List ℕ) (turns : ℕ → Bool) (some : n ≢ 0) (needs_at : (j : ℕ) → j < n → needs j ≡ px j ∷ py j ∷ []) (turned : (k : ℕ) → k ≡ n → turns k ≡ true) where
+  abbrev rooms : ℕ
+  rooms = min (min 512 n) (min ra rb)
+
+  first_needs : needs 0 ≡ own ∷ other ∷ []
+  first_needs = needs_at 0 (omega arith) ∙ (λ i. a.begins i ∷ b.begins i ∷ [])
+
+  beyond : ((rooms ≡ ra) × (ra < 512)) ⊎ ((rooms ≡ rb) × (rb < 512)) → rooms < n → AreAmong (needs rooms) (needs 0) → ⊥
+  beyond which inside among =
+      let m : AreAmong (px rooms ∷ py rooms ∷ []) (own ∷ other ∷ []) =
+      subst (λ ps. AreAmong (px rooms ∷ py rooms ∷ []) ps) first_needs (subst (λ qs. AreAmong qs (needs 0)) (needs_at rooms inside) among) in
+      elim which [
+        | inl one ↦ let out = a.past one.1 (omega arith) in neither_page _ _ _ (λ h. out.0 (sym (ap px one.0) ∙ h)) (λ h. out.1 (sym (ap px one.0) ∙ h)) m.0
+        | inr two ↦ let out = b.past two.1 (omega arith) in neither_page _ _ _ (λ h. out.1 (sym (ap py two.0) ∙ h)) (λ h. out.0 (sym (ap py two.0) ∙ h)) m.1.0
+      ]
+
+  maximal : IsMaximal needs turns rooms
+  maximal =
+      let l = least n ra rb some a.some b.some in
       record {
         few = l.1;
         near = λ j h.
             let inside : j < n = (let k = l.2 in omega arith) in
             subst (λ qs. AreAmong qs (needs 0)) (sym (needs_at j inside))
-            (subst (λ ps. AreAmong ((x + j) / 512 ∷ (y + j) / 512 ∷ []) ps) (sym first_up) (
-              either_page _ _ _ (elim (reach x (y / 512) j (let k = l.3 in omega arith)) [ inl same ↦ inl same | inr next ↦ inr next.0 ]),
-              (either_page _ _ _ (elim (reach y (x / 512) j (let k = l.4 in omega arith)) [ inl same ↦ inr same | inr next ↦ inl next.0 ]), tt),
+            (subst (λ ps. AreAmong (px j ∷ py j ∷ []) ps) (sym first_needs) (
+              either_page _ _ _ (a.near j inside (let k = l.3 in omega arith)),
+              (either_page _ _ _ (elim (b.near j inside (let k = l.4 in omega arith)) [ inl same ↦ inr same | inr next ↦ inl next ]), tt),
             ));
         full =
             elim l.5 [
               | inl top ↦ inl top
-              | inr (inl all) ↦ inr (inl (turned rooms_up all))
+              | inr (inl all) ↦ inr (inl (turned rooms all))
               | inr (inr which) ↦
-                  elim (cases_lt rooms_up n) [
-                    | inr over ↦ inr (inl (turned rooms_up (let k = l.2 in omega arith)))
-                    | inl inside ↦ inr (inr (λ among. beyond_up which inside among))
+                  elim (cases_lt rooms n) [
+                    | inr over ↦ inr (inl (turned rooms (let k = l.2 in omega arith)))
+                    | inl inside ↦ inr (inr (λ among. beyond which inside among))
                   ]
             ];
       }
+
+maximal_up : (x y n : ℕ) (needs : ℕ → List ℕ) (turns : ℕ → Bool) → n ≢ 0 → ((j : ℕ) → j < n → needs j ≡ (x + j) / 512 ∷ (y + j) / 512 ∷ []) → ((k : ℕ) → k ≡ n → turns k ≡ true)
+    → IsMaximal needs turns (min (min 512 n) (min (room_up x (y / 512)) (room_up y (x / 512))))
+maximal_up x y n needs turns some at turned =
+    maximal n _ _ (x / 512) (y / 512) (λ j. (x + j) / 512) (λ j. (y + j) / 512) (up_reaches n x (y / 512)) (up_reaches n y (x / 512)) needs turns some at turned
 
 module _ (p : Progress) (plain : IsMovePlain p) (left_some : p.done < moved_count p) where
   abbrev n : ℕ
@@ -535,53 +533,10 @@ module _ (p : Progress) (plain : IsMovePlain p) (left_some : p.done < moved_coun
         let e2 : plus p.addr2 (moved_count p - (p.done + j + 1)) ≡ v - j = (let f = plain.second in omega arith) in
         rw (back, e1, e2) refl
 
-    first_backward : move_needs p 0 ≡ u / 512 ∷ v / 512 ∷ []
-    first_backward =
-        let e1 : u - 0 ≡ u = omega arith in
-        let e2 : v - 0 ≡ v = omega arith in
-        needs_backward 0 (omega arith) ∙ (λ i. e1 i / 512 ∷ e2 i / 512 ∷ [])
-
-    beyond_backward : ((down ≡ room_down u (v / 512)) × (room_down u (v / 512) < 512)) ⊎ ((down ≡ room_down v (u / 512)) × (room_down v (u / 512) < 512)) → down < n → AreAmong (move_needs p down) (move_needs p 0) → ⊥
-    beyond_backward (inl first) inside among =
-        let a : AreAmong ((u - down) / 512 ∷ (v - down) / 512 ∷ []) (u / 512 ∷ v / 512 ∷ []) =
-        subst (λ ps. AreAmong ((u - down) / 512 ∷ (v - down) / 512 ∷ []) ps) first_backward (subst (λ qs. AreAmong qs (move_needs p 0)) (needs_backward down inside) among) in
-        let e0 = first.0 in
-        let out = past_down u (v / 512) first.1 (omega arith) in
-        let e : (u - down) / 512 ≡ (u - room_down u (v / 512)) / 512 = ap (λ k. (u - k) / 512) first.0 in
-        neither_page _ _ _ (λ h. out.0 (sym e ∙ h)) (λ h. out.1 (sym e ∙ h)) a.0
-    beyond_backward (inr second) inside among =
-        let a : AreAmong ((u - down) / 512 ∷ (v - down) / 512 ∷ []) (u / 512 ∷ v / 512 ∷ []) =
-        subst (λ ps. AreAmong ((u - down) / 512 ∷ (v - down) / 512 ∷ []) ps) first_backward (subst (λ qs. AreAmong qs (move_needs p 0)) (needs_backward down inside) among) in
-        let e0 = second.0 in
-        let out = past_down v (u / 512) second.1 (omega arith) in
-        let e : (v - down) / 512 ≡ (v - room_down v (u / 512)) / 512 = ap (λ k. (v - k) / 512) second.0 in
-        neither_page _ _ _ (λ h. out.1 (sym e ∙ h)) (λ h. out.0 (sym e ∙ h)) a.1.0
-
     maximal_backward : IsMaximal (move_needs p) (turns_to_fills p) down
     maximal_backward =
-        let ra = room_down u (v / 512) in
-        let rb = room_down v (u / 512) in
-        let l = least n ra rb (λ e. omega arith) (some_down u (v / 512)) (some_down v (u / 512)) in
-        record {
-          few = l.1;
-          near = λ j h.
-              let inside : j < n = (let k = l.2 in omega arith) in
-              subst (λ qs. AreAmong qs (move_needs p 0)) (sym (needs_backward j inside))
-              (subst (λ ps. AreAmong ((u - j) / 512 ∷ (v - j) / 512 ∷ []) ps) (sym first_backward) (
-                either_page _ _ _ (reach_down u (v / 512) j (omega arith) (let k = l.3 in omega arith)),
-                (either_page _ _ _ (elim (reach_down v (u / 512) j (omega arith) (let k = l.4 in omega arith)) [ inl same ↦ inr same | inr next ↦ inl next ]), tt),
-              ));
-          full =
-              elim l.5 [
-                | inl top ↦ inl top
-                | inr (inl all) ↦ inr (inl (eq-eqb (p.done + down) (moved_count p) (omega arith)))
-                | inr (inr which) ↦
-                    elim (cases_lt down n) [
-                      | inr over ↦ inr (inl (eq-eqb (p.done + down) (moved_count p) (let k = l.2 in omega arith)))
-                      | inl inside ↦ inr (inr (λ among. beyond_backward which inside among))
-                    ]
-              ];
-        }
+        maximal n _ _ (u / 512) (v / 512) (λ j. (u - j) / 512) (λ j. (v - j) / 512) (down_reaches n u (v / 512) (omega arith)) (down_reaches n v (u / 512) (omega arith))
+        (move_needs p) (turns_to_fills p) (λ e. omega arith) needs_backward (λ k e. eq-eqb (p.done + k) (moved_count p) (omega arith))
 
   pub move_maximal : IsMaximal (move_needs p) (turns_to_fills p) (move_room p)
   move_maximal =

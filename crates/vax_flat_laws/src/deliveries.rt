@@ -25,9 +25,11 @@ pub fn deliveries_enter_handlers()
 /// pointers. So it is of exceptions, of interrupts above the priority and of changes of mode, from a status that goes together.
 pub fn rei_undoes_deliveries()
     ensures exceptions { (e : Exception) → (s t : State) → (memory end : List Area) →
-        IsConsistent s.core.psl → ExceptionComes e s memory t end → Returns (length (parameters e)) s t end }
+        IsConsistent s.core.psl → ExceptionComes e s memory t end
+        → Returns (length (parameters e)) s t end }
     ensures interrupts { (level : ℕ) → (s t : State) → (memory end : List Area) →
-        IsConsistent s.core.psl → priority s < level → InterruptComes level s memory t end → Returns 0 s t end }
+        IsConsistent s.core.psl → priority s < level → InterruptComes level s memory t end
+        → Returns 0 s t end }
     ensures changes { (target : AccessMode) (code : ℕ) (s t : State) (memory end : List Area) →
         IsConsistent s.core.psl → ChangeComes target code s memory t end → Returns 1 s t end }
 {}
@@ -41,14 +43,16 @@ pub fn deliveries_may_end_the_run()
         HasVector (vector_of e) memory → 2 ≤ vector_at memory (vector_of e) % 4 →
         EndsRun (delivery e s ends_there) memory (Vector (vector_of e)) s }
     ensures interrupts { (level : ℕ) → (s : State) → (memory : List Area) →
-        HasVector (interrupt_vector level) memory → 2 ≤ vector_at memory (interrupt_vector level) % 4 →
+        HasVector (interrupt_vector level) memory
+        → 2 ≤ vector_at memory (interrupt_vector level) % 4 →
         EndsRun (interrupt level s ends_there) memory (Vector (interrupt_vector level)) s }
     ensures changes { (target : AccessMode) → (code : ℕ) → (s : State) → (memory : List Area) →
         on_interrupt_stack s.core.psl ≡ false → HasVector (change_vector target) memory →
         1 ≤ vector_at memory (change_vector target) % 4 →
         EndsRun (change_mode target code s ends_there) memory (Vector (change_vector target)) s }
     ensures inside { (target : AccessMode) → (code : ℕ) → (s : State) → (memory : List Area) →
-        on_interrupt_stack s.core.psl ≡ true → EndsRun (change_mode target code s ends_there) memory Change s }
+        on_interrupt_stack s.core.psl ≡ true
+        → EndsRun (change_mode target code s ends_there) memory Change s }
 {}
 
 /// REI goes to exactly the statuses that go together, with a mode that isn't more privileged, on the interrupt stack only from there, and at a priority

@@ -19,17 +19,20 @@ ghost use Rattle.vax_flat_laws.specs.Places.{IsFirstBit, put_and_extracted};
 /// read back, and those beside it stay.
 pub fn fields_are_read_back()
     ensures registers { (source position size n : ℕ) → (s : State) → (next : ℕ → Accesses Leaf) →
-        length s.core.regs ≡ 16 → n < 15 → is_reserved_field position size (FieldRegister n) ≡ false →
+        length s.core.regs ≡ 16 → n < 15
+        → is_reserved_field position size (FieldRegister n) ≡ false →
         put_and_extracted source position size (FieldRegister n) s next ≡ next (source % 2 ^ size) }
     ensures memory { (source position size addr : ℕ) (s : State) (memory end : List Area)
         (x : Leaf) →
         (next : ℕ → Accesses Leaf) → IsWhole memory → 0 < size → size ≤ 32 →
-        outcome_of (put_and_extracted source position size (Memory addr) s next) memory ≡ Ends x end →
+        outcome_of (put_and_extracted source position size (Memory addr) s next) memory
+        ≡ Ends x end →
         (after : List Area) × (outcome_of (next (source % 2 ^ size)) after ≡ Ends x end) }
     ensures part { (first : ℕ) → (new bits : List Bool) → first + length new ≤ length bits →
         part first (length new) (with_part first new bits) ≡ new }
     ensures beside { (first k : ℕ) → (new bits : List Bool) → first + length new ≤ length bits →
-        (k < first) ⊎ (first + length new ≤ k) → slice_index_or (with_part first new bits) k false ≡ slice_index_or bits k false }
+        (k < first) ⊎ (first + length new ≤ k)
+        → slice_index_or (with_part first new bits) k false ≡ slice_index_or bits k false }
 {}
 
 /// CMPV and CMPZV are EXTV and EXTZV and then CMPL of what these gave.

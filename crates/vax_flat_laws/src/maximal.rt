@@ -25,26 +25,32 @@ pub fn parts_are_maximal()
     ensures scan { (some : Bool) (p : Progress) (s : State) (memory : List Area) →
         AreBytes (byte_at memory) →
         p.addr1 < 2 ^ 32 → p.table < 2 ^ 32 →
-        IfLeft (LeavesPart (search_needs p) (entry_barred p (mode s) memory) (λ made. suspended (searched p made) s))
+        IfLeft (LeavesPart (search_needs p) (entry_barred p (mode s) memory)
+        (λ made. suspended (searched p made) s))
         (outcome_of (scan_part some p s leaf) memory) }
     ensures compare { (p : Progress) → (s : State) → (memory : List Area) → IsPlain p →
-        IfLeft (LeavesPart (compare_needs p) never (λ made. suspended (record p { done = p.done + made }) s))
+        IfLeft (LeavesPart (compare_needs p) never
+        (λ made. suspended (record p { done = p.done + made }) s))
         (outcome_of (compare_part p s leaf) memory) }
     ensures moves { (translate : Bool) (p : Progress) (s : State) (memory : List Area) →
         IsMovePlain p →
         p.done < moved_count p →
-        IfLeft (LeavesPart (move_needs p) (turns_to_fills p) (λ made. suspended (record p { done = p.done + made }) s))
+        IfLeft (LeavesPart (move_needs p) (turns_to_fills p)
+        (λ made. suspended (record p { done = p.done + made }) s))
         (outcome_of (move_part translate p s leaf) memory) }
     ensures escape { (p : Progress) (s : State) (memory : List Area) → IsMovePlain p →
         p.done < moved_count p →
-        IfLeft (LeavesPart (escape_needs p) (turns_to_fills p) (λ made. suspended (record p { done = p.done + made }) s))
+        IfLeft (LeavesPart (escape_needs p) (turns_to_fills p)
+        (λ made. suspended (record p { done = p.done + made }) s))
         (outcome_of (escape_part p s leaf) memory) }
     ensures matching { (p : Progress) → (s : State) → (memory : List Area) →
-        IfLeft (LeavesPart (match_needs p memory) never (λ made. suspended (after_units p memory made) s))
+        IfLeft (LeavesPart (match_needs p memory) never
+        (λ made. suspended (after_units p memory made) s))
         (outcome_of (match_part p s leaf) memory) }
     ensures fills { (translate : Bool) → (p : Progress) → (s : State) → (memory : List Area) →
         moved_count p ≤ p.done → p.done < p.len2 →
-        IfLeft (LeavesPart (fill_needs p) never (λ made. suspended (record p { done = p.done + made }) s))
+        IfLeft (LeavesPart (fill_needs p) never
+        (λ made. suspended (record p { done = p.done + made }) s))
         (outcome_of (move_part translate p s leaf) memory) }
 {}
 

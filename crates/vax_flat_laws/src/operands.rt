@@ -17,15 +17,19 @@ pub fn operands_fit()
         next_operand (record { letter = letter; width = width }) s next
         ≡ next_operand (record { letter = letter; width = width }) s other }
     ensures values { (width dummy : ℕ) → (s : State) → (next : ℕ → State → Accesses Leaf) →
-        read_value width s next ≡ next_operand (read_of width) s (λ o t. next (value_or dummy o) t) }
+        read_value width s next
+        ≡ next_operand (read_of width) s (λ o t. next (value_or dummy o) t) }
     ensures addresses { (width dummy : ℕ) → (s : State) → (next : ℕ → State → Accesses Leaf) →
-        address_value width s next ≡ next_operand (address_of width) s (λ o t. next (address_or dummy o) t) }
+        address_value width s next
+        ≡ next_operand (address_of width) s (λ o t. next (address_or dummy o) t) }
     ensures targets { (width dummy : ℕ) → (s : State) → (next : ℕ → State → Accesses Leaf) →
-        branch_target width s next ≡ next_operand (branch_of width) s (λ o t. next (target_or dummy o) t) }
+        branch_target width s next
+        ≡ next_operand (branch_of width) s (λ o t. next (target_or dummy o) t) }
     ensures modified { (width : ℕ) (dummy : Accesses Leaf) (s : State)
         (next : Operand × ℕ → State → Accesses Leaf) →
         modify_value width s next
-        ≡ next_operand (modify_of width) s (λ place t. value_at_or dummy width place t (λ x u. next (place, x) u)) }
+        ≡ next_operand (modify_of width) s
+        (λ place t. value_at_or dummy width place t (λ x u. next (place, x) u)) }
     ensures written { (width size value : ℕ) (dummy : Accesses Leaf) (s : State)
         (next : State → Accesses Leaf) →
         write_place width s (λ place t. stored size place value t next)

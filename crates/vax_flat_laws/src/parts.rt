@@ -52,12 +52,16 @@ pub fn parts_write_their_units()
 /// by the table where there is one; or the fill byte. MOVTUC writes none that escapes. Nothing else is written.
 pub fn moves_write_their_units()
     ensures moved { (translate : Bool) (p : Progress) (s : State) (memory : List Area) →
-        IsWhole memory → AreBytes (byte_at memory) → IsCheckedMove translate p s memory → p.done < moved_count p →
-        IfLeftMemory (HasMoved translate p memory) (outcome_of (move_part translate p s leaf) memory) }
+        IsWhole memory → AreBytes (byte_at memory) → IsCheckedMove translate p s memory
+        → p.done < moved_count p →
+        IfLeftMemory (HasMoved translate p memory)
+        (outcome_of (move_part translate p s leaf) memory) }
     ensures filled { (translate : Bool) (p : Progress) (s : State) (memory : List Area) →
-        IsWhole memory → IsCheckedMove translate p s memory → moved_count p ≤ p.done → p.done < p.len2 →
+        IsWhole memory → IsCheckedMove translate p s memory
+        → moved_count p ≤ p.done → p.done < p.len2 →
         IfLeftMemory (HasFilled p memory) (outcome_of (move_part translate p s leaf) memory) }
     ensures escape { (p : Progress) (s : State) (memory : List Area) →
-        IsWhole memory → AreBytes (byte_at memory) → IsCheckedEscape p s memory → p.done < moved_count p →
+        IsWhole memory → AreBytes (byte_at memory) → IsCheckedEscape p s memory
+        → p.done < moved_count p →
         IfLeftMemory (HasEscaped p memory) (outcome_of (escape_part p s leaf) memory) }
 {}

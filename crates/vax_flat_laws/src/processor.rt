@@ -13,13 +13,15 @@ ghost use Rattle.vax_flat_laws.specs.Processor.{AllEqual, IsAtLevel, IsNoneOf, r
 /// bit 6, and bit 7 as it was unless a 1 was written there.
 pub fn registers_are_read_back()
     ensures pointers { (n value : ℕ) → (s : State) → (next : ℕ → Accesses Leaf) → n ≤ 4 →
-        length s.core.regs ≡ 16 → length s.core.stacks ≡ 5 → read_after n value n s next ≡ next value }
+        length s.core.regs ≡ 16 → length s.core.stacks ≡ 5
+        → read_after n value n s next ≡ next value }
     ensures priority { (value : ℕ) → (s : State) → (next : ℕ → Accesses Leaf) →
         read_after 18 value 18 s next ≡ next (value % 2 ^ 5) }
     ensures requests { (value : ℕ) → (s : State) → (next : ℕ → Accesses Leaf) →
         read_after 21 value 21 s next ≡ next (value % 2 ^ 16 - value % 2) }
     ensures timer { (value : ℕ) → (s : State) → (next : ℕ → Accesses Leaf) →
-        read_after 24 value 24 s next ≡ next (64 * bit_at value 6 + 128 * (bit_at s.core.iccs 7 * (1 - bit_at value 7))) }
+        read_after 24 value 24 s next
+        ≡ next (64 * bit_at value 6 + 128 * (bit_at s.core.iccs 7 * (1 - bit_at value 7))) }
 {}
 
 /// What MTPR wrote is in no other place: another stack's pointer stays, and so does the status beside its priority. The clock's count begins anew

@@ -16,7 +16,8 @@ ghost use Rattle.vax_flat_laws.specs.Places.{IsOutside, probe_codes, put_and_rem
 /// REMQUE undoes INSQUE: memory is as before but for the entry's own two links.
 pub fn removals_undo_insertions()
     ensures { (entry predecessor n : ℕ) → (s t : State) → (memory end : List Area) →
-        IsOutside entry predecessor memory → ComesTo (put_and_removed entry predecessor (Register n) s) memory t end →
+        IsOutside entry predecessor memory
+        → ComesTo (put_and_removed entry predecessor (Register n) s) memory t end →
         byte_at end ≡ with_links entry predecessor memory }
 {}
 

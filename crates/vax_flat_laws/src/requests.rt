@@ -37,7 +37,9 @@ pub fn clocks_count_steps()
         ComesTo (finished Done s leaf) memory t end → IsCounted s.core.iccs s.core.clock t.core }
     ensures exceptions { (e : Exception) (s t : State) (memory end : List Area) →
         IsMachine s memory →
-        AreWords (parameters e) → ComesTo (whole_delivery e s) memory t end → IsCounted s.core.iccs s.core.clock t.core }
+        AreWords (parameters e) → ComesTo (whole_delivery e s) memory t end
+        → IsCounted s.core.iccs s.core.clock t.core }
     ensures traps { (kind : TrapKind) (s t : State) (memory end : List Area) → IsMachine s memory →
-        ComesTo (finished (Trap kind) s leaf) memory t end → IsCounted s.core.iccs s.core.clock t.core }
+        ComesTo (finished (Trap kind) s leaf) memory t end
+        → IsCounted s.core.iccs s.core.clock t.core }
 {}

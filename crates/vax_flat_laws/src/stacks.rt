@@ -27,7 +27,8 @@ pub fn pops_undo_pushes()
 pub fn arguments_are_counted_by_a_byte()
     ensures { (top : ℕ) → (s : State) → (next : ℕ → State → Accesses Leaf) → (memory : List Area) →
         violation memory top 4 (mode s) Read ≡ None → byte_at memory top < 256 →
-        outcome_of (behind_arguments true top s next) memory ≡ outcome_of (next (plus top (4 + 4 * byte_at memory top)) s) memory }
+        outcome_of (behind_arguments true top s next) memory
+        ≡ outcome_of (next (plus top (4 + 4 * byte_at memory top)) s) memory }
 {}
 
 /// PUSHR leaves the named registers on the stack, the lowest at its top: bit k of the mask names Rk, and bit 15 nothing.

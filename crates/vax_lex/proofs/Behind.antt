@@ -1,8 +1,8 @@
 -- What the parts before a place say of it, one by one.
-use Rattle.std.proofs.Common.{◌≡◌, ℕ, zero, suc, Bool, true, false, not, cond, List, [], ◌∷◌, refl, ap, ◌∙◌}
+use Rattle.std.proofs.Common.{◌≡◌, ℕ, zero, Bool, true, false, not, cond, List, [], ◌∷◌, refl, ap, ◌∙◌}
 use Rattle.std.specs.Prelude.{◌&&◌, ◌==◌, codes}
 use Rattle.vax_lex.specs.Characters.{spells}
-use Rattle.vax_lex.specs.Statements.{text_directive, immediate_if, other_operator, on_two_texts, on_text, on_no_text, Place, statement, first_name, behind_label, text_piece, bracketed_piece, condition_name, condition_end, expression_rest, text_argument, between_arguments, operands, Before, nothing_special, size_letter, operator_caret, text_sign, label_colon, Context, context_after, context_after_blank, place_after, before_after, line_start, is_caret, is_size, is_text_sign, is_first_name, is_size_letter}
+use Rattle.vax_lex.specs.Statements.{text_directive, on_two_texts, Place, first_name, condition_end, text_argument, Before, nothing_special, size_letter, operator_caret, text_sign, label_colon, Context, context_after, context_after_blank, place_after, before_after, line_start, is_caret, is_size, is_text_sign, is_first_name, is_size_letter}
 use Rattle.vax_lex.specs.Tokens.{stray_kind}
 use Rattle.vax_lex.specs.Parts.{token, stray, Part, space, word, sign, quotation, numeric, part_of, behind_operator, behind_size, behind_text_operator}
 use Rattle.vax_lex.specs.declared.token.TokenKind.{TokenKind}
@@ -34,52 +34,18 @@ steps_to numeric before place e = ap (step numeric (behind before).before) e
 
 -- the characters count of names alone
 mark_alone : (p : Place) (b : Before) (m : ℕ) (text : List ℕ) → place_after (record { place = p; before = b }) (Mark m) text ≡ place_after (record { place = p; before = b }) (Mark m) []
-mark_alone statement b m text = refl
 mark_alone (first_name text_directive) b m text = refl
-mark_alone (first_name immediate_if) b m text = refl
-mark_alone (first_name other_operator) b m text = refl
-mark_alone behind_label b m text = refl
-mark_alone text_piece b m text = refl
-mark_alone (bracketed_piece depth) b m text = refl
-mark_alone condition_name b m text = refl
-mark_alone (condition_end subject) b m text = refl
-mark_alone (expression_rest depth) b m text = refl
-mark_alone (text_argument last begun depth) b m text = refl
-mark_alone between_arguments b m text = refl
-mark_alone operands b m text = refl
+mark_alone p b m text = refl
 
 text_alone : (p : Place) (b : Before) (text : List ℕ) → place_after (record { place = p; before = b }) Text text ≡ place_after (record { place = p; before = b }) Text []
-text_alone statement b text = refl
 text_alone (first_name text_directive) b text = refl
-text_alone (first_name immediate_if) b text = refl
-text_alone (first_name other_operator) b text = refl
-text_alone behind_label b text = refl
-text_alone text_piece b text = refl
-text_alone (bracketed_piece depth) b text = refl
-text_alone condition_name b text = refl
-text_alone (condition_end subject) b text = refl
-text_alone (expression_rest depth) b text = refl
-text_alone (text_argument last begun depth) b text = refl
-text_alone between_arguments b text = refl
-text_alone operands b text = refl
+text_alone p b text = refl
 
 number_alone : (p : Place) (b : Before) (n : ℕ) (text : List ℕ) → place_after (record { place = p; before = b }) (Number n) text ≡ place_after (record { place = p; before = b }) (Number 0) []
-number_alone statement b n text = refl
 number_alone (first_name text_directive) b n text = refl
-number_alone (first_name immediate_if) b n text = refl
-number_alone (first_name other_operator) b n text = refl
-number_alone behind_label b n text = refl
-number_alone text_piece b n text = refl
-number_alone (bracketed_piece depth) b n text = refl
-number_alone condition_name b n text = refl
 number_alone (condition_end on_two_texts) b n text = refl
-number_alone (condition_end on_text) b n text = refl
-number_alone (condition_end on_no_text) b n text = refl
-number_alone (expression_rest depth) b n text = refl
 number_alone (text_argument last begun zero) b n text = refl
-number_alone (text_argument last begun (suc depth)) b n text = refl
-number_alone between_arguments b n text = refl
-number_alone operands b n text = refl
+number_alone p b n text = refl
 
 placed : (x y : Place) (b : Before) → x ≡ y → (let c : Context = record { place = x; before = b } in c) ≡ record { place = y; before = b }
 placed x y b e = ap (λ (p : Place). let c : Context = record { place = p; before = b } in c) e

@@ -1,718 +1,386 @@
 -- What the scanner's place says of the parts before it, in the language's terms.
-use Rattle.std.proofs.Common.{◌≡◌, ℕ, zero, suc, ◌+◌, ◌-◌, Bool, true, false, not, cond, List, [], ◌∷◌, refl, ap, sym, arith, subst}
-use Rattle.std.specs.Prelude.{◌&&◌, ◌||◌, ◌==◌, nat_le, codes}
+use Rattle.std.proofs.Common.{◌≡◌, ℕ, zero, suc, ◌+◌, ◌-◌, Bool, true, false, not, cond, List, [], ◌∷◌, refl, arith, subst}
+use Rattle.std.specs.Prelude.{◌&&◌, ◌==◌, nat_le, codes}
 use Rattle.std.proofs.lemmas.Bool.Decides.{nat_tests}
 use Rattle.vax_lex.specs.Characters.{spells}
-use Rattle.vax_lex.specs.Statements.{Operator, text_directive, immediate_if, other_operator, operator_of, operand_place, is_text_directive, compares_texts, tests_text, Subject, on_two_texts, on_text, on_no_text, subject_of, argument_place, Place, statement, first_name, behind_label, text_piece, bracketed_piece, condition_name, condition_end, expression_rest, text_argument, between_arguments, operands, Before, nothing_special, label_colon, is_colon, piece_due}
+use Rattle.vax_lex.specs.Statements.{Operator, text_directive, immediate_if, other_operator, operator_of, operand_place, is_text_directive, compares_texts, tests_text, Subject, on_two_texts, on_text, on_no_text, subject_of, argument_place, Place, statement, first_name, behind_label, text_piece, bracketed_piece, condition_name, condition_end, expression_rest, text_argument, between_arguments, operands, Before, nothing_special, size_letter, operator_caret, text_sign, label_colon, is_mark, is_name, is_text, is_caret, is_size, is_size_letter, is_colon, expression_after, begun_after, operand_after, place_after, before_after, piece_due}
 use Rattle.vax_lex.specs.Parts.{Part, space, word, sign, quotation, numeric}
-use Rattle.vax_lex.specs.Directives.{is_sign, is_bracket, Blanks, no_blanks, a_blank, Nested, nested_nothing, nested_part, nested_group, Piece, quoted_text, bracketed_value, Pieces, no_pieces, blank_more, piece_more, Tested, tested_nothing, tested_part, tested_group, begins_argument, Argument, argument_begins, argument_group, argument_more, is_of_first, is_of_last, Last, last_missing, last_given, Second, parted_by_comma, parted_by_blanks, Two, first_missing, first_given, Parted, by_blank, by_comma, Begun, begun_part, begun_group, two_texts, one_text, no_text, two_touching, text_touching, no_text_touching, is_immediate_if, StatementDue, at_line, behind_blank, behind_condition, OperatorDue, without_label, with_label, Labelled, one_colon, two_colons, PieceDue, behind_labelled, first_piece, later_piece}
+use Rattle.vax_lex.specs.Directives.{is_space, is_sign, is_bracket, Blanks, no_blanks, a_blank, Nested, nested_nothing, nested_part, nested_group, Piece, quoted_text, bracketed_value, Pieces, no_pieces, blank_more, piece_more, Tested, tested_nothing, tested_part, tested_group, Argument, argument_begins, argument_group, argument_more, is_of_first, is_of_last, Last, last_missing, last_given, Second, parted_by_comma, parted_by_blanks, Two, first_missing, first_given, Parted, by_blank, by_comma, begun_part, begun_group, Condition, two_texts, one_text, no_text, two_touching, text_touching, no_text_touching, is_immediate_if, StatementDue, at_line, behind_blank, behind_condition, OperatorDue, without_label, with_label, Labelled, one_colon, two_colons, PieceDue, behind_labelled, first_piece, later_piece}
+use Rattle.vax_lex.specs.declared.token.TokenKind.{TokenKind}
+use Rattle.vax_lex.specs.declared.token.TokenKind.TheVariants.{Name, Number, Mark, Text}
 use Rattle.vax_lex.proofs.Behind.{after, behind, step}
 
+-- what stands from a start on so far, and what the whole of it brings
+record Due (SoFar Whole : List Part → List Part → Type 0) (Brings : List Part → Type 0) (whole : List Part) : Type 0 where
+  start : List Part
+  ends : (all : List Part) → Whole start all → Brings all
+  so_far : SoFar start whole
+
+more : {S W : List Part → List Part → Type 0} {B : List Part → Type 0} {whole : List Part} (k : Due S W B whole) (longer : List Part) → S k.start longer → Due S W B longer
+more k longer s = record { start = k.start; ends = k.ends; so_far = s }
+
 -- so many brackets are open, and in the innermost each `<` has its `>`
-abbrev pub Open : ℕ → List Part → List Part → Type 0
+abbrev InBrackets : List Part → List Part → Type 0
+InBrackets before whole = Nested (sign 60 ∷ before) whole
+
+abbrev Open : ℕ → List Part → List Part → Type 0
 Open zero before whole = ⊥
-Open (suc zero) before whole = Nested (sign 60 ∷ before) whole
-Open (suc (suc d)) before whole = (outer : List Part) × Open (suc d) before outer × Nested (sign 60 ∷ outer) whole
+Open (suc zero) before whole = InBrackets before whole
+Open (suc (suc d)) before whole = (outer : List Part) × Open (suc d) before outer × InBrackets outer whole
+
+-- so many are open, and behind the last of them this holds
+abbrev In : (List Part → Type 0) → ℕ → List Part → Type 0
+In Holds d whole = Due (Open d) InBrackets (λ inner. Holds (sign 62 ∷ inner)) whole
+
+-- or none is, and this holds
+abbrev Within : (List Part → Type 0) → ℕ → List Part → Type 0
+Within Holds zero whole = Holds whole
+Within Holds (suc d) whole = In Holds (suc d) whole
+
+-- a comma ends a condition here
+abbrev Ended : List Part → Type 0
+Ended whole = StatementDue (sign 44 ∷ whole)
 
 -- pieces may follow
-pub data PiecesDue : List Part → Type 0 where
-  of_labelled : {before whole : List Part} (name : List ℕ) → Labelled before → is_text_directive name ≡ true → Pieces (word name ∷ before) whole → PiecesDue whole
-  of_bare : {before blanks first whole : List Part} (name : List ℕ) → StatementDue before → is_text_directive name ≡ true → Blanks (word name ∷ before) blanks → Piece blanks first → Pieces first whole → PiecesDue whole
+abbrev PiecesDue : List Part → Type 0
+PiecesDue whole = Due Pieces Pieces (λ all. (byte : ℕ) → PieceDue byte all) whole
 
-abbrev Follows : (List Part → Type 0) → List Part → Type 0
-Follows Rest whole = (whole : List Part) → Rest whole → StatementDue (sign 44 ∷ whole)
+-- the name of a condition may follow
+abbrev Conditional : List Part → Type 0
+Conditional whole = Due Blanks Blanks (λ blanks. (name : List ℕ) (all : List Part) → Condition name (word name ∷ blanks) all → Ended all) whole
+
+-- what a condition tests that is no text
+abbrev Expression : List Part → Type 0
+Expression whole = Due Tested Tested Ended whole
+
+-- what begins with the last argument, or with the first of two
+abbrev Rest : Bool → List Part → List Part → Type 0
+Rest true = Last
+Rest false = Two
+
+abbrev goes_on : Bool → Part → Bool
+goes_on true = is_of_last
+goes_on false = is_of_first
+
+-- what the argument brings
+abbrev Brings : Bool → List Part → Type 0
+Brings true whole = Ended whole
+Brings false whole = (all : List Part) → Second whole all → Ended all
+
+abbrev Unbegun : Bool → List Part → Type 0
+Unbegun last whole = Due Blanks (Rest last) Ended whole
+
+abbrev Begun : Bool → List Part → Type 0
+Begun last whole = Due (Argument (goes_on last)) (Argument (goes_on last)) (Brings last) whole
+
+-- the name is that of the operator
+abbrev Names : Operator → List ℕ → Type 0
+Names text_directive name = is_text_directive name ≡ true
+Names immediate_if name = is_immediate_if name ≡ true
+Names other_operator name = Unit {0}
 
 -- a name that may be a label or the operator of its statement, and blanks
-pub record FirstName (o : Operator) (whole : List Part) : Type 0 where
-  pub before : List Part
-  pub name : List ℕ
-  pub due : StatementDue before
-  pub is : operator_of name ≡ o
-  pub blanks : Blanks (word name ∷ before) whole
+record FirstName (o : Operator) (whole : List Part) : Type 0 where
+  before : List Part
+  name : List ℕ
+  due : StatementDue before
+  is : Names o name
+  blanks : Blanks (word name ∷ before) whole
 
--- the first colon of a label
-pub record Colon (whole : List Part) : Type 0 where
-  pub before : List Part
-  pub blanks : List Part
-  pub name : List ℕ
-  pub due : StatementDue before
-  pub named : Blanks (word name ∷ before) blanks
-  pub is : sign 58 ∷ blanks ≡ whole
-
--- a piece in brackets
-pub record Bracketed (d : ℕ) (whole : List Part) : Type 0 where
-  pub before : List Part
-  pub piece : (whole : List Part) → Piece before whole → PiecesDue whole
-  pub open_brackets : Open d before whole
-
--- an `.IIF`, and blanks
-pub record Conditional (whole : List Part) : Type 0 where
-  pub before : List Part
-  pub name : List ℕ
-  pub due : OperatorDue before
-  pub is : is_immediate_if name ≡ true
-  pub blanks : Blanks (word name ∷ before) whole
+-- the name is that of a condition on the subject
+abbrev Tests : Subject → List ℕ → Type 0
+Tests on_two_texts name = compares_texts name ≡ true
+Tests on_text name = (compares_texts name ≡ false) × (tests_text name ≡ true)
+Tests on_no_text name = (compares_texts name ≡ false) × (tests_text name ≡ false)
 
 -- the name of a condition
-pub record Named (s : Subject) (whole : List Part) : Type 0 where
-  pub blanks : List Part
-  pub name : List ℕ
-  pub due : Conditional blanks
-  pub is : subject_of name ≡ s
-  pub ends_here : word name ∷ blanks ≡ whole
+record Named (s : Subject) (whole : List Part) : Type 0 where
+  name : List ℕ
+  is : Tests s name
+  ends : (all : List Part) → Condition name whole all → Ended all
 
--- what a condition tests that is no text: what is to come of it, up to a comma
-pub record TestedSoFar (whole : List Part) : Type 0 where
-  pub ends : (all : List Part) → Tested whole all → StatementDue (sign 44 ∷ all)
-
-pub record TestedOpen (d : ℕ) (whole : List Part) : Type 0 where
-  pub outer : List Part
-  pub ends : (inner : List Part) → Nested (sign 60 ∷ outer) inner → (all : List Part) → Tested (sign 62 ∷ inner) all → StatementDue (sign 44 ∷ all)
-  pub open_brackets : Open d outer whole
-
--- the last argument: not begun, begun, and in brackets
-pub record LastDue (whole : List Part) : Type 0 where
-  pub start : List Part
-  pub ends : (all : List Part) → Last start all → StatementDue (sign 44 ∷ all)
-  pub blanks : Blanks start whole
-
-pub record LastBegun (whole : List Part) : Type 0 where
-  pub start : List Part
-  pub ends : (all : List Part) → Argument is_of_last start all → StatementDue (sign 44 ∷ all)
-  pub argument : Argument is_of_last start whole
-
-pub record LastOpen (d : ℕ) (whole : List Part) : Type 0 where
-  pub start : List Part
-  pub ends : (all : List Part) → Argument is_of_last start all → StatementDue (sign 44 ∷ all)
-  pub open_brackets : Open d start whole
-
--- the first of two
-pub record FirstDue (whole : List Part) : Type 0 where
-  pub start : List Part
-  pub ends : (all : List Part) → Two start all → StatementDue (sign 44 ∷ all)
-  pub blanks : Blanks start whole
-
-pub record FirstBegun (whole : List Part) : Type 0 where
-  pub start : List Part
-  pub ends : (first : List Part) → Argument is_of_first start first → (all : List Part) → Second first all → StatementDue (sign 44 ∷ all)
-  pub argument : Argument is_of_first start whole
-
-pub record FirstOpen (d : ℕ) (whole : List Part) : Type 0 where
-  pub start : List Part
-  pub ends : (first : List Part) → Argument is_of_first start first → (all : List Part) → Second first all → StatementDue (sign 44 ∷ all)
-  pub open_brackets : Open d start whole
-
-pub record Between (whole : List Part) : Type 0 where
-  pub first : List Part
-  pub ends : (all : List Part) → Second first all → StatementDue (sign 44 ∷ all)
-  pub behind : Blanks (space ∷ first) whole
-
-abbrev pub Known : Place → Before → List Part → Type 0
+abbrev Known : Place → Before → List Part → Type 0
 Known statement b whole = StatementDue whole
 Known (first_name o) b whole = FirstName o whole
-Known behind_label b whole = Labelled whole × (is_colon b ≡ true → Colon whole)
+Known behind_label b whole = Labelled whole × (is_colon b ≡ true → Labelled (sign 58 ∷ whole))
 Known text_piece b whole = PiecesDue whole
-Known (bracketed_piece d) b whole = Bracketed d whole
+Known (bracketed_piece d) b whole = In PiecesDue d whole
 Known condition_name b whole = Conditional whole
 Known (condition_end s) b whole = Named s whole
-Known (expression_rest zero) b whole = TestedSoFar whole
-Known (expression_rest (suc d)) b whole = TestedOpen (suc d) whole
-Known (text_argument true false zero) b whole = LastDue whole
-Known (text_argument true false (suc d)) b whole = ⊥
-Known (text_argument true true zero) b whole = LastBegun whole
-Known (text_argument true true (suc d)) b whole = LastOpen (suc d) whole
-Known (text_argument false false zero) b whole = FirstDue whole
-Known (text_argument false false (suc d)) b whole = ⊥
-Known (text_argument false true zero) b whole = FirstBegun whole
-Known (text_argument false true (suc d)) b whole = FirstOpen (suc d) whole
-Known between_arguments b whole = Between whole
+Known (expression_rest d) b whole = Within Expression d whole
+Known (text_argument last false zero) b whole = Unbegun last whole
+Known (text_argument last false (suc d)) b whole = ⊥
+Known (text_argument last true d) b whole = Within (Begun last) d whole
+Known between_arguments b whole = Due (λ first. Blanks (space ∷ first)) Second Ended whole
 Known operands b whole = Unit {0}
 
--- a choice
-known_if : (t : Bool) (x y : Place) (b : Before) (whole : List Part) → (t ≡ true → Known x b whole) → (t ≡ false → Known y b whole) → Known (cond t x y) b whole
-known_if true x y b whole f g = f refl
-known_if false x y b whole f g = g refl
+-- the token that a part is which is no blank
+abbrev kind_of : Part → TokenKind
+kind_of (word name) = Name
+kind_of (sign m) = Mark m
+kind_of quotation = Text
+kind_of _ = Number 0
 
--- a sign that is told
-told : (P : Part → Type 0) (m n : ℕ) → (m == n) ≡ true → P (sign n) → P (sign m)
-told P m n e p = let same : n ≡ m = grind (arith, nat_tests) in subst (λ (k : ℕ). P (sign k)) same p
+abbrev text_of : Part → List ℕ
+text_of (word name) = name
+text_of _ = []
+
+-- tests of a part
+by_mark : (n : ℕ) (p : Part) (x y : Place) (b : Before) (whole : List Part) → (is_sign n p ≡ true → Known x b (sign n ∷ whole)) → (is_sign n p ≡ false → Known y b (p ∷ whole)) → Known (cond (is_mark n (kind_of p)) x y) b (p ∷ whole)
+by_mark n (sign m) x y b whole f g = by_test (m == n) refl
+  where
+    by_test : (t : Bool) → (m == n) ≡ t → Known (cond t x y) b (sign m ∷ whole)
+    by_test true e = let same : n ≡ m = grind (arith, nat_tests) in subst (λ (k : ℕ). Known x b (sign k ∷ whole)) same (f e)
+    by_test false e = g e
+by_mark n p x y b whole f g = g refl
+
+and_true : (t : Bool) → t ≡ (t && true)
+and_true true = refl
+and_true false = refl
+
+and_false : (t : Bool) → false ≡ (t && false)
+and_false true = refl
+and_false false = refl
+
+by_mark_if : (n : ℕ) (p : Part) (u : Bool) (x y : Place) (b : Before) (whole : List Part) → (u ≡ true → is_sign n p ≡ true → Known x b (sign n ∷ whole)) → ((u ≡ true → is_sign n p ≡ false) → Known y b (p ∷ whole)) → Known (cond (is_mark n (kind_of p) && u) x y) b (p ∷ whole)
+by_mark_if n p true x y b whole f g = subst (λ (t : Bool). Known (cond t x y) b (p ∷ whole)) (and_true (is_mark n (kind_of p))) (by_mark n p x y b whole (f refl) (λ e. g (λ _. e)))
+by_mark_if n p false x y b whole f g = subst (λ (t : Bool). Known (cond t x y) b (p ∷ whole)) (and_false (is_mark n (kind_of p))) (g (λ e. absurd cc))
+
+by_name : (p : Part) (x : List ℕ → Place) (y : Place) (b : Before) (whole : List Part) → ((name : List ℕ) → Known (x name) b (word name ∷ whole)) → Known y b (p ∷ whole) → Known (cond (is_name (kind_of p)) (x (text_of p)) y) b (p ∷ whole)
+by_name (word name) x y b whole f g = f name
+by_name p x y b whole f g = g
+
+by_text : (p : Part) (x y : Place) (b : Before) (whole : List Part) → Known x b (quotation ∷ whole) → Known y b (p ∷ whole) → Known (cond (is_text (kind_of p)) x y) b (p ∷ whole)
+by_text quotation x y b whole f g = f
+by_text p x y b whole f g = g
 
 -- brackets
-open_more : (d : ℕ) (before whole : List Part) (p : Part) → is_bracket p ≡ false → Open (suc d) before whole → Open (suc d) before (p ∷ whole)
-open_more zero before whole p n o = nested_part p n o
-open_more (suc d) before whole p n o = (o.0, o.1, nested_part p n o.2)
+inside : (B : List Part → Type 0) (d : ℕ) (whole : List Part) (p : Part) → is_bracket p ≡ false → In B (suc d) whole → In B (suc d) (p ∷ whole)
+inside B d whole p n k = more k (p ∷ whole) (open_more d k.so_far)
+  where
+    open_more : (d : ℕ) → Open (suc d) k.start whole → Open (suc d) k.start (p ∷ whole)
+    open_more zero o = nested_part p n o
+    open_more (suc d) o = (o.0, o.1, nested_part p n o.2)
 
-open_deeper : (d : ℕ) (before whole : List Part) → Open (suc d) before whole → Open (suc (suc d)) before (sign 60 ∷ whole)
-open_deeper d before whole o = (whole, o, nested_nothing)
+deeper : (B : List Part → Type 0) (d : ℕ) (whole : List Part) → In B (suc d) whole → In B (suc (suc d)) (sign 60 ∷ whole)
+deeper B d whole k = record { start = k.start; ends = k.ends; so_far = (whole, k.so_far, nested_nothing) }
 
-open_closed : (d : ℕ) (before whole : List Part) → Open (suc (suc d)) before whole → Open (suc d) before (sign 62 ∷ whole)
-open_closed zero before whole o = nested_group o.1 o.2
-open_closed (suc d) before whole (outer, (rest, o, n), m) = (rest, o, nested_group n m)
+closed : (B : List Part → Type 0) (d : ℕ) (whole : List Part) → In B (suc d) whole → Within B d (sign 62 ∷ whole)
+closed B zero whole k = k.ends whole k.so_far
+closed B (suc d) whole k = record { start = k.start; ends = k.ends; so_far = open_closed d k.so_far }
+  where
+    open_closed : (d : ℕ) → Open (suc (suc d)) k.start whole → Open (suc d) k.start (sign 62 ∷ whole)
+    open_closed zero o = nested_group o.1 o.2
+    open_closed (suc d) (outer, (rest, o, n), m) = (rest, o, nested_group n m)
 
-no_bracket : (s t : Bool) → s ≡ false → t ≡ false → (s || t) ≡ false
-no_bracket true t e f = absurd cc
-no_bracket false true e f = absurd cc
-no_bracket false false e f = refl
+bracket_steps : (B : List Part → Type 0) (d : ℕ) (x y z : Place) (b : Before) (whole : List Part) (p : Part) → In B (suc d) whole
+    → (In B (suc (suc d)) (sign 60 ∷ whole) → Known x b (sign 60 ∷ whole)) → (Within B d (sign 62 ∷ whole) → Known y b (sign 62 ∷ whole)) → (In B (suc d) (p ∷ whole) → Known z b (p ∷ whole))
+    → Known (cond (is_mark 60 (kind_of p)) x (cond (is_mark 62 (kind_of p)) y z)) b (p ∷ whole)
+bracket_steps B d x y z b whole p k f g h =
+    by_mark 60 p x _ b whole (λ _. f (deeper B d whole k)) (λ e. by_mark 62 p y z b whole (λ _. g (closed B d whole k)) (λ i. h (inside B d whole p (rw (e, i) refl) k)))
 
--- which operator a name is
-is_text : (s t : Bool) → cond s text_directive (cond t immediate_if other_operator) ≡ text_directive → s ≡ true
-is_text true t e = refl
-is_text false true e = absurd cc
-is_text false false e = absurd cc
+raised : (P : ℕ → Type 0) (d : ℕ) → P (suc (suc d)) → P (suc d + 1)
+raised P d k = subst P (omega arith) k
 
-is_if : (s t : Bool) → cond s text_directive (cond t immediate_if other_operator) ≡ immediate_if → t ≡ true
-is_if true t e = absurd cc
-is_if false true e = refl
-is_if false false e = absurd cc
+lowered : (P : ℕ → Type 0) (d : ℕ) → P d → P (suc d - 1)
+lowered P d k = subst P (omega arith) k
 
-text_name : (name : List ℕ) → operator_of name ≡ text_directive → is_text_directive name ≡ true
-text_name name e = is_text (is_text_directive name) (spells (codes ".IIF") name) e
+piece_closed : (d : ℕ) (b : Before) (whole : List Part) → Within PiecesDue d whole → Known (cond (nat_le (suc d) 1) text_piece (bracketed_piece (suc d - 1))) b whole
+piece_closed zero b whole k = k
+piece_closed (suc d) b whole k =
+    let two : false ≡ nat_le (suc (suc d)) 1 = grind (arith, nat_tests) in
+    subst (λ (t : Bool). Known (cond t text_piece (bracketed_piece (suc (suc d) - 1))) b whole) two (lowered (λ (n : ℕ). In PiecesDue n whole) (suc d) k)
 
-if_name : (name : List ℕ) → operator_of name ≡ immediate_if → is_immediate_if name ≡ true
-if_name name e = is_if (is_text_directive name) (spells (codes ".IIF") name) e
+-- which operator a name is, and which condition
+operator_named : (name : List ℕ) → Names (operator_of name) name
+operator_named name = by_tests (is_text_directive name) (spells (codes ".IIF") name) refl refl
+  where
+    by_tests : (s t : Bool) → is_text_directive name ≡ s → spells (codes ".IIF") name ≡ t → Names (cond s text_directive (cond t immediate_if other_operator)) name
+    by_tests true t e f = e
+    by_tests false true e f = f
+    by_tests false false e f = tt
 
--- one more blank
-blank_name : (o : Operator) (whole : List Part) → FirstName o whole → FirstName o (space ∷ whole)
-blank_name o whole k = record { before = k.before; name = k.name; due = k.due; is = k.is; blanks = a_blank k.blanks }
+condition_named : (name : List ℕ) → Tests (subject_of name) name
+condition_named name = by_tests (compares_texts name) (tests_text name) refl refl
+  where
+    by_tests : (s t : Bool) → compares_texts name ≡ s → tests_text name ≡ t → Tests (cond s on_two_texts (cond t on_text on_no_text)) name
+    by_tests true t e f = e
+    by_tests false true e f = (e, f)
+    by_tests false false e f = (e, f)
 
+-- pieces
+text_steps : (p : Part) (b : Before) (whole : List Part) → ((all : List Part) → Piece whole all → PiecesDue all) → Known (operand_after text_piece (kind_of p) (text_of p)) b (p ∷ whole)
+text_steps p b whole piece = by_text p text_piece _ b whole (piece (quotation ∷ whole) quoted_text)
+    (by_mark 60 p (bracketed_piece 1) operands b whole (λ _. record { start = whole; ends = λ inner n. piece (sign 62 ∷ inner) (bracketed_value n); so_far = nested_nothing }) (λ _. tt))
+
+first_text : (whole all : List Part) → FirstName text_directive whole → Piece whole all → PiecesDue all
+first_text whole all k piece = record { start = all; ends = λ longer pieces byte. later_piece k.name k.due k.is k.blanks piece pieces; so_far = no_pieces }
+
+-- behind an operator
+conditional : (before : List Part) (name : List ℕ) (whole : List Part) → OperatorDue before → is_immediate_if name ≡ true → Blanks (word name ∷ before) whole → Conditional whole
+conditional before name whole due is blanks = record { start = word name ∷ before; ends = λ all more condition longer c. behind_condition name condition due is more c; so_far = blanks }
+
+condition_steps : (p : Part) (b : Before) (whole : List Part) → Conditional whole → Known (operand_after condition_name (kind_of p) (text_of p)) b (p ∷ whole)
+condition_steps p b whole k = by_name p (λ (name : List ℕ). condition_end (subject_of name)) operands b whole (λ name. record { name = name; is = condition_named name; ends = k.ends whole k.so_far name }) tt
+
+first_operand : (o : Operator) (p : Part) (b : Before) (whole : List Part) → FirstName o whole → Known (operand_after (operand_place o) (kind_of p) (text_of p)) b (p ∷ whole)
+first_operand text_directive p b whole k = text_steps p b whole (λ all piece. first_text whole all k piece)
+first_operand immediate_if p b whole k = condition_steps p b whole (conditional k.before k.name whole (without_label k.due) k.is k.blanks)
+first_operand other_operator p b whole k = tt
+
+labelled_operator : (o : Operator) (name : List ℕ) (b : Before) (whole : List Part) → Names o name → Labelled whole → Known (operand_place o) b (word name ∷ whole)
+labelled_operator text_directive name b whole is label = record { start = word name ∷ whole; ends = λ all pieces byte. behind_labelled name label is pieces; so_far = no_pieces }
+labelled_operator immediate_if name b whole is label = conditional whole name (word name ∷ whole) (with_label label) is no_blanks
+labelled_operator other_operator name b whole is label = tt
+
+-- a label
 blank_label : {whole : List Part} → Labelled whole → Labelled (space ∷ whole)
 blank_label (one_colon name due blanks more) = one_colon name due blanks (a_blank more)
 blank_label (two_colons name due blanks more) = two_colons name due blanks (a_blank more)
 
-blank_pieces : {whole : List Part} → PiecesDue whole → PiecesDue (space ∷ whole)
-blank_pieces (of_labelled name label is pieces) = of_labelled name label is (blank_more pieces)
-blank_pieces (of_bare name due is blanks piece pieces) = of_bare name due is blanks piece (blank_more pieces)
+no_colon_blank : (t : Bool) → is_colon (cond t text_sign nothing_special) ≡ true → ⊥
+no_colon_blank true e = cc
+no_colon_blank false e = cc
 
-one_piece : {before : List Part} → PiecesDue before → (whole : List Part) → Piece before whole → PiecesDue whole
-one_piece {before = before} (of_labelled name label is pieces) whole p = of_labelled name label is (piece_more before pieces p)
-one_piece {before = before} (of_bare name due is blanks piece pieces) whole p = of_bare name due is blanks piece (piece_more before pieces p)
+no_colon : (p : Part) (b : Before) → is_colon (before_after (record { place = behind_label; before = b }) (kind_of p) (text_of p)) ≡ true → ⊥
+no_colon (word name) b e = by_tests (is_caret b) (spells (codes "A") name) (is_size_letter name) e
+  where
+    by_tests : (x y z : Bool) → is_colon (cond x (cond y text_sign nothing_special) (cond z size_letter nothing_special)) ≡ true → ⊥
+    by_tests true true z e = cc
+    by_tests true false z e = cc
+    by_tests false y true e = cc
+    by_tests false y false e = cc
+no_colon (sign m) b e = by_tests (m == 94) (is_size b) (m == 58) e
+  where
+    by_tests : (x y z : Bool) → is_colon (cond x (cond y nothing_special operator_caret) (cond (z && false) label_colon nothing_special)) ≡ true → ⊥
+    by_tests true true z e = cc
+    by_tests true false z e = cc
+    by_tests false y true e = cc
+    by_tests false y false e = cc
+no_colon p b e = cc
+
+-- behind the name of a condition: what parts the argument from it, and what touches it
+parted : (s : Subject) (b : Before) (whole start : List Part) → Parted whole start → Named s whole → Known (argument_place s) b start
+parted on_two_texts b whole start parts k = record { start = start; ends = λ all two. k.ends all (two_texts k.is parts two); so_far = no_blanks }
+parted on_text b whole start parts k = record { start = start; ends = λ all last. k.ends all (one_text k.is.0 k.is.1 parts last); so_far = no_blanks }
+parted on_no_text b whole start parts k = record { start = start; ends = λ all tested. k.ends all (no_text k.is.0 k.is.1 parts tested); so_far = tested_nothing }
+
+argument_starts : (last : Bool) (x : Place) (b : Before) (whole : List Part) (p : Part) → is_space p ≡ false → (is_sign 44 p ≡ true → Known x b (sign 44 ∷ whole)) → ((all : List Part) → Argument (goes_on last) whole all → Brings last all)
+    → Known (cond (is_mark 44 (kind_of p)) x (cond (is_mark 60 (kind_of p) && true) (text_argument last true 1) (text_argument last true 0))) b (p ∷ whole)
+argument_starts last x b whole p s comma ends = by_mark 44 p x _ b whole comma (λ e. by_mark_if 60 p true (text_argument last true 1) (text_argument last true 0) b whole
+    (λ _ _. record { start = whole; ends = λ inner n. record { start = whole; ends = ends; so_far = argument_group n }; so_far = nested_nothing })
+    (λ f. let g = f refl in record { start = whole; ends = ends; so_far = argument_begins p (rw (s, e, g) refl) }))
+
+expression_steps : (b : Before) (whole : List Part) (p : Part) → (is_sign 44 p ≡ true → StatementDue (sign 44 ∷ whole)) → ((inner : List Part) → InBrackets whole inner → Expression (sign 62 ∷ inner))
+    → ((q : Part) → is_sign 44 q ≡ false → is_sign 60 q ≡ false → is_space q ≡ false → Expression (q ∷ whole)) → is_space p ≡ false → Known (expression_after 0 (kind_of p)) b (p ∷ whole)
+expression_steps b whole p comma group part s = by_mark 60 p (expression_rest 1) _ b whole (λ _. record { start = whole; ends = group; so_far = nested_nothing })
+    (λ e. by_mark 62 p (expression_rest 0) _ b whole (λ _. part (sign 62) refl refl refl)
+    (λ _. by_mark_if 44 p true statement (expression_rest 0) b whole (λ _ c. comma c) (λ f. part p (f refl) e s)))
+
+touching : (s : Subject) (p : Part) (b : Before) (whole : List Part) → is_space p ≡ false → is_sign 44 p ≡ false → Named s whole → Known (begun_after s (kind_of p)) b (p ∷ whole)
+touching on_two_texts p b whole s e k = argument_starts false (text_argument true false 0) b whole p s (λ f. absurd cc) (λ first argument all second. k.ends all (two_touching k.is argument second))
+touching on_text p b whole s e k = argument_starts true statement b whole p s (λ f. absurd cc) (λ all argument. k.ends all (text_touching k.is.0 k.is.1 argument))
+touching on_no_text p b whole s e k = expression_steps b whole p (λ f. absurd cc)
+    (λ inner n. record { start = sign 62 ∷ inner; ends = λ all tested. k.ends all (no_text_touching k.is.0 k.is.1 (begun_group n) tested); so_far = tested_nothing })
+    (λ q c o s. record { start = q ∷ whole; ends = λ all tested. k.ends all (no_text_touching k.is.0 k.is.1 (begun_part q (rw (s, c, o) refl)) tested); so_far = tested_nothing }) s
+
+-- arguments
+no_argument : (last : Bool) (b : Before) (whole : List Part) → Unbegun last whole → Known (cond last statement (text_argument true false 0)) b (sign 44 ∷ whole)
+no_argument true b whole k = k.ends whole (last_missing k.so_far)
+no_argument false b whole k = record { start = sign 44 ∷ whole; ends = λ all last. k.ends all (first_missing k.so_far last); so_far = no_blanks }
+
+given : (last : Bool) (whole all : List Part) → Unbegun last whole → Argument (goes_on last) whole all → Brings last all
+given true whole all k argument = k.ends all (last_given k.so_far argument)
+given false whole all k argument = λ longer second. k.ends longer (first_given k.so_far argument second)
+
+argument_ends : (last : Bool) (b : Before) (whole : List Part) → Begun last whole → Known (cond last statement (text_argument true false 0)) b (sign 44 ∷ whole)
+argument_ends true b whole k = k.ends whole k.so_far
+argument_ends false b whole k = record { start = sign 44 ∷ whole; ends = λ all last. k.ends whole k.so_far all (parted_by_comma no_blanks last); so_far = no_blanks }
+
+is_more : (last : Bool) (p : Part) → is_space p ≡ false → is_sign 44 p ≡ false → goes_on last p ≡ true
+is_more true p s e = rw e refl
+is_more false p s e = rw (s, e) refl
 
 widened : {before whole : List Part} → Blanks (space ∷ before) whole → Blanks before whole
 widened no_blanks = a_blank no_blanks
 widened (a_blank more) = a_blank (widened more)
 
--- behind the name of a condition
-condition_known : (name : List ℕ) (whole : List Part) → Conditional whole → Named (subject_of name) (word name ∷ whole)
-condition_known name whole k = record { blanks = whole; name = name; due = k; is = refl; ends_here = refl }
-
--- which condition it is
-two_by : (s t : Bool) → cond s on_two_texts (cond t on_text on_no_text) ≡ on_two_texts → s ≡ true
-two_by true t e = refl
-two_by false true e = absurd cc
-two_by false false e = absurd cc
-
-one_by : (s t : Bool) → cond s on_two_texts (cond t on_text on_no_text) ≡ on_text → (s ≡ false) × (t ≡ true)
-one_by true t e = absurd cc
-one_by false true e = (refl, refl)
-one_by false false e = absurd cc
-
-none_by : (s t : Bool) → cond s on_two_texts (cond t on_text on_no_text) ≡ on_no_text → (s ≡ false) × (t ≡ false)
-none_by true t e = absurd cc
-none_by false true e = absurd cc
-none_by false false e = (refl, refl)
-
--- what stands behind it ends in a statement
-abbrev EndsIn : List Part → (List Part → Type 0) → Type 0
-EndsIn whole Rest = (all : List Part) → Rest all → StatementDue (sign 44 ∷ all)
-
-two_ends : (whole start : List Part) → Named on_two_texts whole → Parted whole start → EndsIn start (Two start)
-two_ends whole start k parts all two =
-    behind_condition k.due.name k.name k.due.due k.due.is k.due.blanks (two_texts (two_by (compares_texts k.name) (tests_text k.name) k.is) (subst (λ (w : List Part). Parted w start) (sym k.ends_here) parts) two)
-
-last_ends : (whole start : List Part) → Named on_text whole → Parted whole start → EndsIn start (Last start)
-last_ends whole start k parts all last =
-    let is = one_by (compares_texts k.name) (tests_text k.name) k.is in
-    behind_condition k.due.name k.name k.due.due k.due.is k.due.blanks (one_text is.0 is.1 (subst (λ (w : List Part). Parted w start) (sym k.ends_here) parts) last)
-
-tested_ends : (whole start : List Part) → Named on_no_text whole → Parted whole start → EndsIn start (Tested start)
-tested_ends whole start k parts all tested =
-    let is = none_by (compares_texts k.name) (tests_text k.name) k.is in
-    behind_condition k.due.name k.name k.due.due k.due.is k.due.blanks (no_text is.0 is.1 (subst (λ (w : List Part). Parted w start) (sym k.ends_here) parts) tested)
-
-first_touches : (whole : List Part) → Named on_two_texts whole → (first : List Part) → Argument is_of_first whole first → EndsIn first (Second first)
-first_touches whole k first argument all second =
-    behind_condition k.due.name k.name k.due.due k.due.is k.due.blanks
-    (two_touching (two_by (compares_texts k.name) (tests_text k.name) k.is) (subst (λ (w : List Part). Argument is_of_first w first) (sym k.ends_here) argument) second)
-
-last_touches : (whole : List Part) → Named on_text whole → EndsIn whole (Argument is_of_last whole)
-last_touches whole k all argument =
-    let is = one_by (compares_texts k.name) (tests_text k.name) k.is in
-    behind_condition k.due.name k.name k.due.due k.due.is k.due.blanks (text_touching is.0 is.1 (subst (λ (w : List Part). Argument is_of_last w all) (sym k.ends_here) argument))
-
-tested_touches : (whole first : List Part) → Named on_no_text whole → Begun whole first → EndsIn first (Tested first)
-tested_touches whole first k begun all tested =
-    let is = none_by (compares_texts k.name) (tests_text k.name) k.is in
-    behind_condition k.due.name k.name k.due.due k.due.is k.due.blanks (no_text_touching is.0 is.1 (subst (λ (w : List Part). Begun w first) (sym k.ends_here) begun) tested)
-
--- the argument behind what parts it from the name
-parted_known : (s : Subject) (b : Before) (whole start : List Part) → Named s whole → Parted whole start → Known (argument_place s) b start
-parted_known on_two_texts b whole start k parts = record { start = start; ends = two_ends whole start k parts; blanks = no_blanks }
-parted_known on_text b whole start k parts = record { start = start; ends = last_ends whole start k parts; blanks = no_blanks }
-parted_known on_no_text b whole start k parts = record { ends = tested_ends whole start k parts }
-
--- behind the operator of a statement
-operator_known : (o : Operator) (name : List ℕ) (b : Before) (whole : List Part) → operator_of name ≡ o → Labelled whole → Known (operand_place o) b (word name ∷ whole)
-operator_known text_directive name b whole e label = of_labelled name label (text_name name e) no_pieces
-operator_known immediate_if name b whole e label = record { before = whole; name = name; due = with_label label; is = if_name name e; blanks = no_blanks }
-operator_known other_operator name b whole e label = tt
-
-abbrev next : Part → Before → Place → Before
-next p b place = (after (record { place = place; before = b }) p).before
-
--- a step of the scanner, by places
-abbrev Steps : Place → Type 0
-Steps place = (p : Part) (b : Before) (whole : List Part) → Known place b whole → Known (step p b place) (next p b place) (p ∷ whole)
-
-statement_steps : Steps statement
-statement_steps space b whole k = behind_blank k
-statement_steps (word name) b whole k = record { before = whole; name = name; due = k; is = refl; blanks = no_blanks }
-statement_steps (sign m) b whole k = tt
-statement_steps quotation b whole k = tt
-statement_steps numeric b whole k = tt
-
-conditional_of : (whole : List Part) → FirstName immediate_if whole → Conditional whole
-conditional_of whole k = record { before = k.before; name = k.name; due = without_label k.due; is = if_name k.name k.is; blanks = k.blanks }
-
-first_colon : (o : Operator) (whole : List Part) → FirstName o whole → Labelled (sign 58 ∷ whole)
-first_colon o whole k = one_colon k.name k.due k.blanks no_blanks
-
-colon_of : (o : Operator) (whole : List Part) → FirstName o whole → Colon (sign 58 ∷ whole)
-colon_of o whole k = record { before = k.before; blanks = whole; name = k.name; due = k.due; named = k.blanks; is = refl }
-
-first_bracket : (whole : List Part) → FirstName text_directive whole → Bracketed 1 (sign 60 ∷ whole)
-first_bracket whole k = record { before = whole; piece = λ all p. of_bare k.name k.due (text_name k.name k.is) k.blanks p no_pieces; open_brackets = nested_nothing }
-
-name_steps : (o : Operator) → Steps (first_name o)
-name_steps o space b whole k = blank_name o whole k
-name_steps text_directive (word name) b whole k = tt
-name_steps immediate_if (word name) b whole k = condition_known name whole (conditional_of whole k)
-name_steps other_operator (word name) b whole k = tt
-name_steps text_directive (sign m) b whole k = known_if (m == 58) _ _ _ (sign m ∷ whole)
-    (λ e. (told (λ p. Labelled (p ∷ whole)) m 58 e (first_colon text_directive whole k), λ _. told (λ p. Colon (p ∷ whole)) m 58 e (colon_of text_directive whole k)))
-    (λ _. known_if (m == 60) _ _ _ (sign m ∷ whole) (λ e. told (λ p. Bracketed 1 (p ∷ whole)) m 60 e (first_bracket whole k)) (λ _. tt))
-name_steps immediate_if (sign m) b whole k = known_if (m == 58) _ _ _ (sign m ∷ whole)
-    (λ e. (told (λ p. Labelled (p ∷ whole)) m 58 e (first_colon immediate_if whole k), λ _. told (λ p. Colon (p ∷ whole)) m 58 e (colon_of immediate_if whole k)))
-    (λ _. tt)
-name_steps other_operator (sign m) b whole k = known_if (m == 58) _ _ _ (sign m ∷ whole)
-    (λ e. (told (λ p. Labelled (p ∷ whole)) m 58 e (first_colon other_operator whole k), λ _. told (λ p. Colon (p ∷ whole)) m 58 e (colon_of other_operator whole k)))
-    (λ _. tt)
-name_steps text_directive quotation b whole k = of_bare k.name k.due (text_name k.name k.is) k.blanks quoted_text no_pieces
-name_steps immediate_if quotation b whole k = tt
-name_steps other_operator quotation b whole k = tt
-name_steps text_directive numeric b whole k = tt
-name_steps immediate_if numeric b whole k = tt
-name_steps other_operator numeric b whole k = tt
-
-no_colon_blank : (t : Bool) → is_colon (cond t Before.text_sign nothing_special) ≡ true → ⊥
-no_colon_blank true e = cc
-no_colon_blank false e = cc
-
-no_colon_mark : (s t u : Bool) → is_colon (cond s (cond t nothing_special Before.operator_caret) (cond (u && false) label_colon nothing_special)) ≡ true → ⊥
-no_colon_mark true true u e = cc
-no_colon_mark true false u e = cc
-no_colon_mark false t true e = cc
-no_colon_mark false t false e = cc
-
-and_left : (s t : Bool) → (s && t) ≡ true → s ≡ true
-and_left true t e = refl
-and_left false t e = absurd cc
-
-and_right : (s t : Bool) → (s && t) ≡ true → t ≡ true
-and_right true t e = e
-and_right false t e = absurd cc
-
-second_colon : (whole : List Part) → Colon whole → Labelled (sign 58 ∷ whole)
-second_colon whole c = subst (λ (w : List Part). Labelled (sign 58 ∷ w)) c.is (two_colons c.name c.due c.named no_blanks)
-
-label_steps : Steps behind_label
-label_steps space b whole k = (blank_label k.0, λ e. absurd (no_colon_blank _ e))
-label_steps (word name) b whole k = operator_known (operator_of name) name _ whole refl k.0
-label_steps (sign m) b whole k = known_if ((m == 58) && is_colon b) _ _ _ (sign m ∷ whole)
-    (λ e. (told (λ p. Labelled (p ∷ whole)) m 58 (and_left (m == 58) (is_colon b) e) (second_colon whole (k.1 (and_right (m == 58) (is_colon b) e))), λ f. absurd (no_colon_mark (m == 94) _ (m == 58) f)))
-    (λ _. tt)
-label_steps quotation b whole k = tt
-label_steps numeric b whole k = tt
-
-piece_steps : Steps text_piece
-piece_steps space b whole k = blank_pieces k
-piece_steps (word name) b whole k = tt
-piece_steps (sign m) b whole k = known_if (m == 60) _ _ _ (sign m ∷ whole)
-    (λ e. told (λ p. Bracketed 1 (p ∷ whole)) m 60 e (record { before = whole; piece = one_piece k; open_brackets = nested_nothing })) (λ _. tt)
-piece_steps quotation b whole k = one_piece k (quotation ∷ whole) quoted_text
-piece_steps numeric b whole k = tt
-
--- a part more in brackets
-bracketed_more : (d : ℕ) (whole : List Part) (p : Part) → is_bracket p ≡ false → Bracketed (suc d) whole → Bracketed (suc d) (p ∷ whole)
-bracketed_more d whole p n k = record { before = k.before; piece = k.piece; open_brackets = open_more d k.before whole p n k.open_brackets }
-
-bracketed_deeper : (d : ℕ) (whole : List Part) → Bracketed (suc d) whole → Bracketed (suc d + 1) (sign 60 ∷ whole)
-bracketed_deeper d whole k =
-    let same : suc (suc d) ≡ suc d + 1 = omega arith in
-    let there : Bracketed (suc (suc d)) (sign 60 ∷ whole) = record { before = k.before; piece = k.piece; open_brackets = open_deeper d k.before whole k.open_brackets } in
-    subst (λ (n : ℕ). Bracketed n (sign 60 ∷ whole)) same there
-
-bracketed_closed : (d : ℕ) (b : Before) (whole : List Part) → Bracketed (suc d) whole → Known (cond (nat_le (suc d) 1) text_piece (bracketed_piece (suc d - 1))) b (sign 62 ∷ whole)
-bracketed_closed zero b whole k = k.piece (sign 62 ∷ whole) (bracketed_value k.open_brackets)
-bracketed_closed (suc d) b whole k = known_if (nat_le (suc (suc d)) 1) _ _ b (sign 62 ∷ whole)
-    (λ e. absurd (grind (arith, nat_tests)))
-    (λ _. let same : suc d ≡ suc (suc d) - 1 = omega arith in
-    let there : Bracketed (suc d) (sign 62 ∷ whole) = record { before = k.before; piece = k.piece; open_brackets = open_closed d k.before whole k.open_brackets } in
-    subst (λ (n : ℕ). Bracketed n (sign 62 ∷ whole)) same there)
-
-bracketed_steps : (d : ℕ) → Steps (bracketed_piece d)
-bracketed_steps zero p b whole k = absurd k.open_brackets
-bracketed_steps (suc d) space b whole k = bracketed_more d whole space refl k
-bracketed_steps (suc d) (word name) b whole k = bracketed_more d whole (word name) refl k
-bracketed_steps (suc d) (sign m) b whole k = known_if (m == 60) _ _ _ (sign m ∷ whole)
-    (λ e. told (λ p. Bracketed (suc d + 1) (p ∷ whole)) m 60 e (bracketed_deeper d whole k))
-    (λ e. known_if (m == 62) _ _ _ (sign m ∷ whole)
-    (λ f. told (λ p. Known (cond (nat_le (suc d) 1) text_piece (bracketed_piece (suc d - 1))) (next (sign m) b (bracketed_piece (suc d))) (p ∷ whole)) m 62 f (bracketed_closed d _ whole k))
-    (λ f. bracketed_more d whole (sign m) (no_bracket (m == 60) (m == 62) e f) k))
-bracketed_steps (suc d) quotation b whole k = bracketed_more d whole quotation refl k
-bracketed_steps (suc d) numeric b whole k = bracketed_more d whole numeric refl k
-
-condition_steps : Steps condition_name
-condition_steps space b whole k = record { before = k.before; name = k.name; due = k.due; is = k.is; blanks = a_blank k.blanks }
-condition_steps (word name) b whole k = condition_known name whole k
-condition_steps (sign m) b whole k = tt
-condition_steps quotation b whole k = tt
-condition_steps numeric b whole k = tt
-
--- what is no text
-tested_behind : {before first whole : List Part} → Tested before first → Tested first whole → Tested before whole
-tested_behind t tested_nothing = t
-tested_behind t (tested_part p c o more) = tested_part p c o (tested_behind t more)
-tested_behind t (tested_group more inner) = tested_group (tested_behind t more) inner
-
-tested_more : (whole : List Part) (p : Part) → is_sign 44 p ≡ false → is_sign 60 p ≡ false → TestedSoFar whole → TestedSoFar (p ∷ whole)
-tested_more whole p c o k = record { ends = λ all tested. k.ends all (tested_behind (tested_part p c o tested_nothing) tested) }
-
-tested_opened : (whole : List Part) → TestedSoFar whole → TestedOpen 1 (sign 60 ∷ whole)
-tested_opened whole k = record { outer = whole; ends = λ inner nested all tested. k.ends all (tested_behind (tested_group tested_nothing nested) tested); open_brackets = nested_nothing }
-
-sign_other : (m n k : ℕ) → (m == n) ≡ true → (n == k) ≡ false → (m == k) ≡ false
-sign_other m n k e f = grind (arith, nat_tests)
-
-tested_steps : Steps (expression_rest zero)
-tested_steps space b whole k = tested_more whole space refl refl k
-tested_steps (word name) b whole k = tested_more whole (word name) refl refl k
-tested_steps (sign m) b whole k = known_if (m == 60) _ _ _ (sign m ∷ whole)
-    (λ e. told (λ p. TestedOpen 1 (p ∷ whole)) m 60 e (tested_opened whole k))
-    (λ e. known_if (m == 62) _ _ _ (sign m ∷ whole)
-    (λ f. tested_more whole (sign m) (sign_other m 62 44 f refl) e k)
-    (λ f. known_if ((m == 44) && true) _ _ _ (sign m ∷ whole)
-    (λ g. told (λ p. StatementDue (p ∷ whole)) m 44 (and_left (m == 44) true g) (k.ends whole tested_nothing))
-    (λ g. tested_more whole (sign m) (and_true (m == 44) g) e k)))
-  where
-    and_true : (t : Bool) → (t && true) ≡ false → t ≡ false
-    and_true true e = absurd cc
-    and_true false e = refl
-tested_steps quotation b whole k = tested_more whole quotation refl refl k
-tested_steps numeric b whole k = tested_more whole numeric refl refl k
-
-open_tested : (d : ℕ) (whole : List Part) (p : Part) → is_bracket p ≡ false → TestedOpen (suc d) whole → TestedOpen (suc d) (p ∷ whole)
-open_tested d whole p n k = record { outer = k.outer; ends = k.ends; open_brackets = open_more d k.outer whole p n k.open_brackets }
-
-tested_deeper : (d : ℕ) (b : Before) (whole : List Part) → TestedOpen (suc d) whole → Known (expression_rest (suc d + 1)) b (sign 60 ∷ whole)
-tested_deeper d b whole k =
-    let same : suc (suc d) ≡ suc d + 1 = omega arith in
-    let there : Known (expression_rest (suc (suc d))) b (sign 60 ∷ whole) = record { outer = k.outer; ends = k.ends; open_brackets = open_deeper d k.outer whole k.open_brackets } in
-    subst (λ (n : ℕ). Known (expression_rest n) b (sign 60 ∷ whole)) same there
-
-tested_closed : (d : ℕ) (b : Before) (whole : List Part) → TestedOpen (suc d) whole → Known (expression_rest (suc d - 1)) b (sign 62 ∷ whole)
-tested_closed zero b whole k = record { ends = k.ends whole k.open_brackets }
-tested_closed (suc d) b whole k =
-    let same : suc d ≡ suc (suc d) - 1 = omega arith in
-    let there : Known (expression_rest (suc d)) b (sign 62 ∷ whole) = record { outer = k.outer; ends = k.ends; open_brackets = open_closed d k.outer whole k.open_brackets } in
-    subst (λ (n : ℕ). Known (expression_rest n) b (sign 62 ∷ whole)) same there
-
-open_steps : (d : ℕ) → Steps (expression_rest (suc d))
-open_steps d space b whole k = open_tested d whole space refl k
-open_steps d (word name) b whole k = open_tested d whole (word name) refl k
-open_steps d (sign m) b whole k = known_if (m == 60) _ _ _ (sign m ∷ whole)
-    (λ e. told (λ p. Known (expression_rest (suc d + 1)) (next (sign m) b (expression_rest (suc d))) (p ∷ whole)) m 60 e (tested_deeper d _ whole k))
-    (λ e. known_if (m == 62) _ _ _ (sign m ∷ whole)
-    (λ f. told (λ p. Known (expression_rest (suc d - 1)) (next (sign m) b (expression_rest (suc d))) (p ∷ whole)) m 62 f (tested_closed d _ whole k))
-    (λ f. known_if ((m == 44) && (suc d == 0)) _ _ _ (sign m ∷ whole)
-    (λ g. absurd (none_open d (and_right (m == 44) (suc d == 0) g)))
-    (λ g. open_tested d whole (sign m) (no_bracket (m == 60) (m == 62) e f) k)))
-  where
-    none_open : (n : ℕ) → (suc n == 0) ≡ true → ⊥
-    none_open n e = grind (arith, nat_tests)
-open_steps d quotation b whole k = open_tested d whole quotation refl k
-open_steps d numeric b whole k = open_tested d whole numeric refl k
-
--- the last argument
-begins_sign : (m : ℕ) → (m == 44) ≡ false → ((m == 60) && true) ≡ false → begins_argument (sign m) ≡ true
-begins_sign m e f = by_tests (m == 44) (m == 60) e f
-  where
-    by_tests : (s t : Bool) → s ≡ false → (t && true) ≡ false → (not s && not t) ≡ true
-    by_tests true t e f = absurd cc
-    by_tests false true e f = absurd cc
-    by_tests false false e f = refl
-
-last_begins : (whole : List Part) (p : Part) → begins_argument p ≡ true → LastDue whole → LastBegun (p ∷ whole)
-last_begins whole p n k = record { start = whole; ends = λ all argument. k.ends all (last_given k.blanks argument); argument = argument_begins p n }
-
-last_opened : (whole : List Part) → LastDue whole → LastOpen 1 (sign 60 ∷ whole)
-last_opened whole k = record { start = whole; ends = λ all argument. k.ends all (last_given k.blanks argument); open_brackets = nested_nothing }
-
-last_steps : Steps (text_argument true false zero)
-last_steps space b whole k = record { start = k.start; ends = k.ends; blanks = a_blank k.blanks }
-last_steps (word name) b whole k = last_begins whole (word name) refl k
-last_steps (sign m) b whole k = known_if (m == 44) _ _ _ (sign m ∷ whole)
-    (λ e. told (λ p. StatementDue (p ∷ whole)) m 44 e (k.ends whole (last_missing k.blanks)))
-    (λ e. known_if ((m == 60) && true) _ _ _ (sign m ∷ whole)
-    (λ f. told (λ p. LastOpen 1 (p ∷ whole)) m 60 (and_left (m == 60) true f) (last_opened whole k))
-    (λ f. last_begins whole (sign m) (begins_sign m e f) k))
-last_steps quotation b whole k = last_begins whole quotation refl k
-last_steps numeric b whole k = last_begins whole numeric refl k
-
-last_more : (whole : List Part) (p : Part) → is_of_last p ≡ true → LastBegun whole → LastBegun (p ∷ whole)
-last_more whole p n k = record { start = k.start; ends = k.ends; argument = argument_more p n k.argument }
-
-begun_steps : Steps (text_argument true true zero)
-begun_steps space b whole k = last_more whole space refl k
-begun_steps (word name) b whole k = last_more whole (word name) refl k
-begun_steps (sign m) b whole k = known_if (m == 44) _ _ _ (sign m ∷ whole)
-    (λ e. told (λ p. StatementDue (p ∷ whole)) m 44 e (k.ends whole k.argument))
-    (λ e. known_if ((m == 60) && false) _ _ _ (sign m ∷ whole)
-    (λ f. absurd (and_no (m == 60) f))
-    (λ f. last_more whole (sign m) (ap not e) k))
-  where
-    and_no : (t : Bool) → (t && false) ≡ true → ⊥
-    and_no true e = cc
-    and_no false e = cc
-begun_steps quotation b whole k = last_more whole quotation refl k
-begun_steps numeric b whole k = last_more whole numeric refl k
-
-last_inside : (d : ℕ) (whole : List Part) (p : Part) → is_bracket p ≡ false → LastOpen (suc d) whole → LastOpen (suc d) (p ∷ whole)
-last_inside d whole p n k = record { start = k.start; ends = k.ends; open_brackets = open_more d k.start whole p n k.open_brackets }
-
-last_deeper : (d : ℕ) (b : Before) (whole : List Part) → LastOpen (suc d) whole → Known (text_argument true true (suc d + 1)) b (sign 60 ∷ whole)
-last_deeper d b whole k =
-    let same : suc (suc d) ≡ suc d + 1 = omega arith in
-    let there : Known (text_argument true true (suc (suc d))) b (sign 60 ∷ whole) = record { start = k.start; ends = k.ends; open_brackets = open_deeper d k.start whole k.open_brackets } in
-    subst (λ (n : ℕ). Known (text_argument true true n) b (sign 60 ∷ whole)) same there
-
-last_closed : (d : ℕ) (b : Before) (whole : List Part) → LastOpen (suc d) whole → Known (text_argument true true d) b (sign 62 ∷ whole)
-last_closed zero b whole k = record { start = k.start; ends = k.ends; argument = argument_group k.open_brackets }
-last_closed (suc d) b whole k = record { start = k.start; ends = k.ends; open_brackets = open_closed d k.start whole k.open_brackets }
-
-last_open_steps : (d : ℕ) → Steps (text_argument true true (suc d))
-last_open_steps d space b whole k = last_inside d whole space refl k
-last_open_steps d (word name) b whole k = last_inside d whole (word name) refl k
-last_open_steps d (sign m) b whole k = known_if (m == 60) _ _ _ (sign m ∷ whole)
-    (λ e. told (λ p. Known (text_argument true true (suc d + 1)) (next (sign m) b (text_argument true true (suc d))) (p ∷ whole)) m 60 e (last_deeper d _ whole k))
-    (λ e. known_if (m == 62) _ _ _ (sign m ∷ whole)
-    (λ f. told (λ p. Known (text_argument true true d) (next (sign m) b (text_argument true true (suc d))) (p ∷ whole)) m 62 f (last_closed d _ whole k))
-    (λ f. last_inside d whole (sign m) (no_bracket (m == 60) (m == 62) e f) k))
-last_open_steps d quotation b whole k = last_inside d whole quotation refl k
-last_open_steps d numeric b whole k = last_inside d whole numeric refl k
-
--- the first of two arguments
-first_begins : (whole : List Part) (p : Part) → begins_argument p ≡ true → FirstDue whole → FirstBegun (p ∷ whole)
-first_begins whole p n k = record { start = whole; ends = λ first argument all second. k.ends all (first_given k.blanks argument second); argument = argument_begins p n }
-
-first_opened : (whole : List Part) → FirstDue whole → FirstOpen 1 (sign 60 ∷ whole)
-first_opened whole k = record { start = whole; ends = λ first argument all second. k.ends all (first_given k.blanks argument second); open_brackets = nested_nothing }
-
-none_first : (whole : List Part) → FirstDue whole → LastDue (sign 44 ∷ whole)
-none_first whole k = record { start = sign 44 ∷ whole; ends = λ all last. k.ends all (first_missing k.blanks last); blanks = no_blanks }
-
-first_steps : Steps (text_argument false false zero)
-first_steps space b whole k = record { start = k.start; ends = k.ends; blanks = a_blank k.blanks }
-first_steps (word name) b whole k = first_begins whole (word name) refl k
-first_steps (sign m) b whole k = known_if (m == 44) _ _ _ (sign m ∷ whole)
-    (λ e. told (λ p. LastDue (p ∷ whole)) m 44 e (none_first whole k))
-    (λ e. known_if ((m == 60) && true) _ _ _ (sign m ∷ whole)
-    (λ f. told (λ p. FirstOpen 1 (p ∷ whole)) m 60 (and_left (m == 60) true f) (first_opened whole k))
-    (λ f. first_begins whole (sign m) (begins_sign m e f) k))
-first_steps quotation b whole k = first_begins whole quotation refl k
-first_steps numeric b whole k = first_begins whole numeric refl k
-
-first_more : (whole : List Part) (p : Part) → is_of_first p ≡ true → FirstBegun whole → FirstBegun (p ∷ whole)
-first_more whole p n k = record { start = k.start; ends = k.ends; argument = argument_more p n k.argument }
-
-first_ended : (whole : List Part) → FirstBegun whole → LastDue (sign 44 ∷ whole)
-first_ended whole k = record { start = sign 44 ∷ whole; ends = λ all last. k.ends whole k.argument all (parted_by_comma no_blanks last); blanks = no_blanks }
-
-first_begun_steps : Steps (text_argument false true zero)
-first_begun_steps space b whole k = record { first = whole; ends = k.ends whole k.argument; behind = no_blanks }
-first_begun_steps (word name) b whole k = first_more whole (word name) refl k
-first_begun_steps (sign m) b whole k = known_if (m == 44) _ _ _ (sign m ∷ whole)
-    (λ e. told (λ p. LastDue (p ∷ whole)) m 44 e (first_ended whole k))
-    (λ e. known_if ((m == 60) && false) _ _ _ (sign m ∷ whole)
-    (λ f. absurd (and_no (m == 60) f))
-    (λ f. first_more whole (sign m) (ap not e) k))
-  where
-    and_no : (t : Bool) → (t && false) ≡ true → ⊥
-    and_no true e = cc
-    and_no false e = cc
-first_begun_steps quotation b whole k = first_more whole quotation refl k
-first_begun_steps numeric b whole k = first_more whole numeric refl k
-
-first_inside : (d : ℕ) (whole : List Part) (p : Part) → is_bracket p ≡ false → FirstOpen (suc d) whole → FirstOpen (suc d) (p ∷ whole)
-first_inside d whole p n k = record { start = k.start; ends = k.ends; open_brackets = open_more d k.start whole p n k.open_brackets }
-
-first_deeper : (d : ℕ) (b : Before) (whole : List Part) → FirstOpen (suc d) whole → Known (text_argument false true (suc d + 1)) b (sign 60 ∷ whole)
-first_deeper d b whole k =
-    let same : suc (suc d) ≡ suc d + 1 = omega arith in
-    let there : Known (text_argument false true (suc (suc d))) b (sign 60 ∷ whole) = record { start = k.start; ends = k.ends; open_brackets = open_deeper d k.start whole k.open_brackets } in
-    subst (λ (n : ℕ). Known (text_argument false true n) b (sign 60 ∷ whole)) same there
-
-first_closed : (d : ℕ) (b : Before) (whole : List Part) → FirstOpen (suc d) whole → Known (text_argument false true d) b (sign 62 ∷ whole)
-first_closed zero b whole k = record { start = k.start; ends = k.ends; argument = argument_group k.open_brackets }
-first_closed (suc d) b whole k = record { start = k.start; ends = k.ends; open_brackets = open_closed d k.start whole k.open_brackets }
-
-first_open_steps : (d : ℕ) → Steps (text_argument false true (suc d))
-first_open_steps d space b whole k = first_inside d whole space refl k
-first_open_steps d (word name) b whole k = first_inside d whole (word name) refl k
-first_open_steps d (sign m) b whole k = known_if (m == 60) _ _ _ (sign m ∷ whole)
-    (λ e. told (λ p. Known (text_argument false true (suc d + 1)) (next (sign m) b (text_argument false true (suc d))) (p ∷ whole)) m 60 e (first_deeper d _ whole k))
-    (λ e. known_if (m == 62) _ _ _ (sign m ∷ whole)
-    (λ f. told (λ p. Known (text_argument false true d) (next (sign m) b (text_argument false true (suc d))) (p ∷ whole)) m 62 f (first_closed d _ whole k))
-    (λ f. first_inside d whole (sign m) (no_bracket (m == 60) (m == 62) e f) k))
-first_open_steps d quotation b whole k = first_inside d whole quotation refl k
-first_open_steps d numeric b whole k = first_inside d whole numeric refl k
-
--- behind the first argument and a blank
-second_begins : (whole : List Part) (p : Part) → begins_argument p ≡ true → Between whole → LastBegun (p ∷ whole)
-second_begins whole p n k = record { start = whole; ends = λ all argument. k.ends all (parted_by_blanks k.behind argument); argument = argument_begins p n }
-
-second_opened : (whole : List Part) → Between whole → LastOpen 1 (sign 60 ∷ whole)
-second_opened whole k = record { start = whole; ends = λ all argument. k.ends all (parted_by_blanks k.behind argument); open_brackets = nested_nothing }
-
-comma_behind : (whole : List Part) → Between whole → LastDue (sign 44 ∷ whole)
-comma_behind whole k = record { start = sign 44 ∷ whole; ends = λ all last. k.ends all (parted_by_comma (widened k.behind) last); blanks = no_blanks }
-
-between_steps : Steps between_arguments
-between_steps space b whole k = record { first = k.first; ends = k.ends; behind = a_blank k.behind }
-between_steps (word name) b whole k = second_begins whole (word name) refl k
-between_steps (sign m) b whole k = known_if (m == 44) _ _ _ (sign m ∷ whole)
-    (λ e. told (λ p. LastDue (p ∷ whole)) m 44 e (comma_behind whole k))
-    (λ e. known_if (m == 44) _ _ _ (sign m ∷ whole)
-    (λ f. absurd cc)
-    (λ _. known_if ((m == 60) && true) _ _ _ (sign m ∷ whole)
-    (λ f. told (λ p. LastOpen 1 (p ∷ whole)) m 60 (and_left (m == 60) true f) (second_opened whole k))
-    (λ f. second_begins whole (sign m) (begins_sign m e f) k)))
-between_steps quotation b whole k = second_begins whole quotation refl k
-between_steps numeric b whole k = second_begins whole numeric refl k
-
--- right behind the name of a condition
-two_touched : (whole : List Part) (p : Part) → begins_argument p ≡ true → Named on_two_texts whole → FirstBegun (p ∷ whole)
-two_touched whole p n k = record { start = whole; ends = first_touches whole k; argument = argument_begins p n }
-
-last_touched : (whole : List Part) (p : Part) → begins_argument p ≡ true → Named on_text whole → LastBegun (p ∷ whole)
-last_touched whole p n k = record { start = whole; ends = last_touches whole k; argument = argument_begins p n }
-
-tested_touched : (whole : List Part) (p : Part) → begins_argument p ≡ true → Named on_no_text whole → TestedSoFar (p ∷ whole)
-tested_touched whole p n k = record { ends = tested_touches whole (p ∷ whole) k (begun_part p n) }
-
-end_steps : (s : Subject) → Steps (condition_end s)
-end_steps s space b whole k = parted_known s _ whole (space ∷ whole) k by_blank
-end_steps on_two_texts (word name) b whole k = two_touched whole (word name) refl k
-end_steps on_text (word name) b whole k = last_touched whole (word name) refl k
-end_steps on_no_text (word name) b whole k = tested_touched whole (word name) refl k
-end_steps on_two_texts (sign m) b whole k = known_if (m == 44) _ _ _ (sign m ∷ whole)
-    (λ e. told (λ p. FirstDue (p ∷ whole)) m 44 e (parted_known on_two_texts b whole (sign 44 ∷ whole) k by_comma))
-    (λ e. known_if (m == 44) _ _ _ (sign m ∷ whole)
-    (λ f. absurd cc)
-    (λ _. known_if ((m == 60) && true) _ _ _ (sign m ∷ whole)
-    (λ f. told (λ p. FirstOpen 1 (p ∷ whole)) m 60 (and_left (m == 60) true f) (record { start = whole; ends = first_touches whole k; open_brackets = nested_nothing }))
-    (λ f. two_touched whole (sign m) (begins_sign m e f) k)))
-end_steps on_text (sign m) b whole k = known_if (m == 44) _ _ _ (sign m ∷ whole)
-    (λ e. told (λ p. LastDue (p ∷ whole)) m 44 e (parted_known on_text b whole (sign 44 ∷ whole) k by_comma))
-    (λ e. known_if (m == 44) _ _ _ (sign m ∷ whole)
-    (λ f. absurd cc)
-    (λ _. known_if ((m == 60) && true) _ _ _ (sign m ∷ whole)
-    (λ f. told (λ p. LastOpen 1 (p ∷ whole)) m 60 (and_left (m == 60) true f) (record { start = whole; ends = last_touches whole k; open_brackets = nested_nothing }))
-    (λ f. last_touched whole (sign m) (begins_sign m e f) k)))
-end_steps on_no_text (sign m) b whole k = known_if (m == 44) _ _ _ (sign m ∷ whole)
-    (λ e. told (λ p. TestedSoFar (p ∷ whole)) m 44 e (parted_known on_no_text b whole (sign 44 ∷ whole) k by_comma))
-    (λ e. known_if (m == 60) _ _ _ (sign m ∷ whole)
-    (λ f. told (λ p. TestedOpen 1 (p ∷ whole)) m 60 f (record { outer = whole; ends = λ inner nested. tested_touches whole (sign 62 ∷ inner) k (begun_group nested); open_brackets = nested_nothing }))
-    (λ f. known_if (m == 62) _ _ _ (sign m ∷ whole)
-    (λ g. tested_touched whole (sign m) (begins_sign m e (ap (λ (t : Bool). t && true) f)) k)
-    (λ g. known_if ((m == 44) && true) _ _ _ (sign m ∷ whole)
-    (λ h. absurd (both_ways (m == 44) e h))
-    (λ h. tested_touched whole (sign m) (begins_sign m e (ap (λ (t : Bool). t && true) f)) k))))
-  where
-    both_ways : (t : Bool) → t ≡ false → (t && true) ≡ true → ⊥
-    both_ways true e f = absurd cc
-    both_ways false e f = cc
-end_steps on_two_texts quotation b whole k = two_touched whole quotation refl k
-end_steps on_text quotation b whole k = last_touched whole quotation refl k
-end_steps on_no_text quotation b whole k = tested_touched whole quotation refl k
-end_steps on_two_texts numeric b whole k = two_touched whole numeric refl k
-end_steps on_text numeric b whole k = last_touched whole numeric refl k
-end_steps on_no_text numeric b whole k = tested_touched whole numeric refl k
-
-operands_steps : Steps operands
-operands_steps space b whole k = tt
-operands_steps (word name) b whole k = tt
-operands_steps (sign m) b whole k = tt
-operands_steps quotation b whole k = tt
-operands_steps numeric b whole k = tt
-
-never_last : (d : ℕ) → Steps (text_argument true false (suc d))
-never_last d p b whole k = absurd k
-
-never_first : (d : ℕ) → Steps (text_argument false false (suc d))
-never_first d p b whole k = absurd k
-
-known_steps : (place : Place) → Steps place
-known_steps statement = statement_steps
-known_steps (first_name o) = name_steps o
-known_steps behind_label = label_steps
-known_steps text_piece = piece_steps
-known_steps (bracketed_piece d) = bracketed_steps d
-known_steps condition_name = condition_steps
-known_steps (condition_end s) = end_steps s
-known_steps (expression_rest zero) = tested_steps
-known_steps (expression_rest (suc d)) = open_steps d
-known_steps (text_argument true false zero) = last_steps
-known_steps (text_argument true false (suc d)) = never_last d
-known_steps (text_argument true true zero) = begun_steps
-known_steps (text_argument true true (suc d)) = last_open_steps d
-known_steps (text_argument false false zero) = first_steps
-known_steps (text_argument false false (suc d)) = never_first d
-known_steps (text_argument false true zero) = first_begun_steps
-known_steps (text_argument false true (suc d)) = first_open_steps d
-known_steps between_arguments = between_steps
-known_steps operands = operands_steps
-
-pub known : (before : List Part) → Known (behind before).place (behind before).before before
+none_open : (d : ℕ) → (suc d == 0) ≡ true → ⊥
+none_open d e = grind (arith, nat_tests)
+
+-- a step of the scanner by a blank, and by a token
+blank_known : (place : Place) (b : Before) (whole : List Part) → Known place b whole → Known (step space b place) (after (record { place = place; before = b }) space).before (space ∷ whole)
+blank_known statement b whole k = behind_blank k
+blank_known (first_name o) b whole k = record { before = k.before; name = k.name; due = k.due; is = k.is; blanks = a_blank k.blanks }
+blank_known behind_label b whole k = (blank_label k.0, λ e. absurd (no_colon_blank _ e))
+blank_known text_piece b whole k = more k (space ∷ whole) (blank_more k.so_far)
+blank_known (bracketed_piece zero) b whole k = absurd k.so_far
+blank_known (bracketed_piece (suc d)) b whole k = inside PiecesDue d whole space refl k
+blank_known condition_name b whole k = more k (space ∷ whole) (a_blank k.so_far)
+blank_known (condition_end s) b whole k = parted s _ whole (space ∷ whole) by_blank k
+blank_known (expression_rest zero) b whole k = more k (space ∷ whole) (tested_part space refl refl k.so_far)
+blank_known (expression_rest (suc d)) b whole k = inside Expression d whole space refl k
+blank_known (text_argument true false zero) b whole k = more k (space ∷ whole) (a_blank k.so_far)
+blank_known (text_argument false false zero) b whole k = more k (space ∷ whole) (a_blank k.so_far)
+blank_known (text_argument last false (suc d)) b whole k = absurd k
+blank_known (text_argument true true zero) b whole k = more k (space ∷ whole) (argument_more space refl k.so_far)
+blank_known (text_argument false true zero) b whole k = record { start = whole; ends = k.ends whole k.so_far; so_far = no_blanks }
+blank_known (text_argument true true (suc d)) b whole k = inside (Begun true) d whole space refl k
+blank_known (text_argument false true (suc d)) b whole k = inside (Begun false) d whole space refl k
+blank_known between_arguments b whole k = more k (space ∷ whole) (a_blank k.so_far)
+blank_known operands b whole k = tt
+
+token_known : (place : Place) (p : Part) (b : Before) (whole : List Part) → is_space p ≡ false → Known place b whole
+    → Known (place_after (record { place = place; before = b }) (kind_of p) (text_of p)) (before_after (record { place = place; before = b }) (kind_of p) (text_of p)) (p ∷ whole)
+token_known statement p b whole s k = by_name p (λ (name : List ℕ). first_name (operator_of name)) operands _ whole
+    (λ name. record { before = whole; name = name; due = k; is = operator_named name; blanks = no_blanks }) tt
+token_known (first_name o) p b whole s k = by_mark 58 p behind_label _ _ whole
+    (λ _. (one_colon k.name k.due k.blanks no_blanks, λ _. two_colons k.name k.due k.blanks no_blanks)) (λ _. first_operand o p _ whole k)
+token_known behind_label p b whole s k = by_name p (λ (name : List ℕ). operand_place (operator_of name)) _ _ whole (λ name. labelled_operator (operator_of name) name _ whole (operator_named name) k.0)
+    (by_mark_if 58 p (is_colon b) behind_label operands _ whole (λ e _. (k.1 e, λ f. absurd (no_colon p b f))) (λ _. tt))
+token_known text_piece p b whole s k = text_steps p _ whole (λ all piece. more k all (piece_more whole k.so_far piece))
+token_known (bracketed_piece zero) p b whole s k = absurd k.so_far
+token_known (bracketed_piece (suc d)) p b whole s k = bracket_steps PiecesDue d (bracketed_piece (suc d + 1)) _ _ _ whole p k
+    (λ i. raised (λ (n : ℕ). In PiecesDue n (sign 60 ∷ whole)) d i) (λ i. piece_closed d _ (sign 62 ∷ whole) i) (λ i. i)
+token_known condition_name p b whole s k = condition_steps p _ whole k
+token_known (condition_end subject) p b whole s k = by_mark 44 p (argument_place subject) _ _ whole
+    (λ _. parted subject _ whole (sign 44 ∷ whole) by_comma k) (λ e. touching subject p _ whole s e k)
+token_known (expression_rest zero) p b whole s k = expression_steps _ whole p (λ _. k.ends whole k.so_far)
+    (λ inner n. more k (sign 62 ∷ inner) (tested_group k.so_far n)) (λ q c o _. more k (q ∷ whole) (tested_part q c o k.so_far)) s
+token_known (expression_rest (suc d)) p b whole s k = bracket_steps Expression d (expression_rest (suc d + 1)) (expression_rest (suc d - 1)) _ _ whole p k
+    (λ i. raised (λ (n : ℕ). Within Expression n (sign 60 ∷ whole)) d i) (λ i. lowered (λ (n : ℕ). Within Expression n (sign 62 ∷ whole)) d i)
+    (λ i. by_mark_if 44 p (suc d == 0) statement (expression_rest (suc d)) _ whole (λ e _. absurd (none_open d e)) (λ _. i))
+token_known (text_argument last false zero) p b whole s k = argument_starts last _ _ whole p s (λ _. no_argument last _ whole k) (λ all argument. given last whole all k argument)
+token_known (text_argument last false (suc d)) p b whole s k = absurd k
+token_known (text_argument last true zero) p b whole s k = by_mark 44 p _ _ _ whole (λ _. argument_ends last _ whole k)
+    (λ e. by_mark_if 60 p false (text_argument last true 1) (text_argument last true 0) _ whole (λ f _. absurd cc) (λ _. more k (p ∷ whole) (argument_more p (is_more last p s e) k.so_far)))
+token_known (text_argument last true (suc d)) p b whole s k = bracket_steps (Begun last) d (text_argument last true (suc d + 1)) (text_argument last true d) (text_argument last true (suc d)) _ whole p k
+    (λ i. raised (λ (n : ℕ). Within (Begun last) n (sign 60 ∷ whole)) d i) (λ i. i) (λ i. i)
+token_known between_arguments p b whole s k = by_mark 44 p (text_argument true false 0) _ _ whole
+    (λ _. record { start = sign 44 ∷ whole; ends = λ all last. k.ends all (parted_by_comma (widened k.so_far) last); so_far = no_blanks })
+    (λ e. argument_starts true statement _ whole p s (λ f. absurd cc) (λ all argument. k.ends all (parted_by_blanks k.so_far argument)))
+token_known operands p b whole s k = tt
+
+known : (before : List Part) → Known (behind before).place (behind before).before before
 known [] = at_line
-known (p ∷ before) = step_known p (known before)
+known (p ∷ before) = by_part p (behind before).place (behind before).before (known before)
   where
-    step_known : (p : Part) → Known (behind before).place (behind before).before before → Known (after (behind before) p).place (after (behind before) p).before (p ∷ before)
-    step_known space k = known_steps (behind before).place space (behind before).before before k
-    step_known (word name) k = known_steps (behind before).place (word name) (behind before).before before k
-    step_known (sign m) k = known_steps (behind before).place (sign m) (behind before).before before k
-    step_known quotation k = known_steps (behind before).place quotation (behind before).before before k
-    step_known numeric k = known_steps (behind before).place numeric (behind before).before before k
+    by_part : (p : Part) (place : Place) (b : Before) → Known place b before → Known (step p b place) (after (record { place = place; before = b }) p).before (p ∷ before)
+    by_part space place b k = blank_known place b before k
+    by_part (word name) place b k = token_known place (word name) b before refl k
+    by_part (sign m) place b k = token_known place (sign m) b before refl k
+    by_part quotation place b k = token_known place quotation b before refl k
+    by_part numeric place b k = token_known place numeric b before refl k
 
 -- where the scanner's place is that of a piece, the language has one
+not_true : (t : Bool) → not t ≡ true → t ≡ false
+not_true true e = absurd cc
+not_true false e = refl
+
 due_by : (b : ℕ) (place : Place) (x : Before) (before : List Part) → Known place x before → piece_due place b ≡ true → PieceDue b before
-due_by b text_piece x before (of_labelled name label is pieces) e = behind_labelled name label is pieces
-due_by b text_piece x before (of_bare name due is blanks piece pieces) e = later_piece name due is blanks piece pieces
-due_by b (first_name text_directive) x before k e = first_piece k.name k.due (text_name k.name k.is) k.blanks (not_true (b == 58) e)
-  where
-    not_true : (t : Bool) → not t ≡ true → t ≡ false
-    not_true true e = absurd cc
-    not_true false e = refl
-due_by b (first_name immediate_if) x before k e = absurd cc
-due_by b (first_name other_operator) x before k e = absurd cc
-due_by b statement x before k e = absurd cc
-due_by b behind_label x before k e = absurd cc
-due_by b (bracketed_piece d) x before k e = absurd cc
-due_by b condition_name x before k e = absurd cc
-due_by b (condition_end s) x before k e = absurd cc
-due_by b (expression_rest d) x before k e = absurd cc
-due_by b (text_argument last begun d) x before k e = absurd cc
-due_by b between_arguments x before k e = absurd cc
-due_by b operands x before k e = absurd cc
+due_by b text_piece x before k e = k.ends before k.so_far b
+due_by b (first_name text_directive) x before k e = first_piece k.name k.due k.is k.blanks (not_true (b == 58) e)
+due_by b place x before k e = absurd cc
 
 pub due_told : (b : ℕ) (before : List Part) → piece_due (behind before).place b ≡ true → PieceDue b before
 due_told b before e = due_by b (behind before).place (behind before).before before (known before) e

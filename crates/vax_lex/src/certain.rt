@@ -35,7 +35,8 @@ fn divides_at<N: Names>(line: &[u8], tokens: &[Token], names: &N, at: usize) -> 
     requires tokens { All (IsTokenOf line.now) tokens.now }
     requires within { at < length tokens.now }
     ensures { result ≡ (is_that_mark 47 (slice_get tokens.now at)
-        && begins_with_zero (N.meaning names.now) (drop (at + 1) (symbols_of line.now tokens.now))) }
+        && begins_with_zero (N.meaning names.now)
+        (drop (at + 1) (symbols_of line.now tokens.now))) }
 {
     if !is_mark_at(tokens, at, b'/') {
         return false;

@@ -1,5 +1,5 @@
 -- How arguments are passed by value, one after another.
-use Rattle.std.proofs.Common.{◌≡◌, ℕ, List, [], ◌∷◌, ◌++◌, Option, Result, Ok, Err, refl, sym, ap, ◌∙◌, append_assoc, append-nil}
+use Rattle.std.proofs.Common.{◌≡◌, List, [], ◌∷◌, ◌++◌, Result, Ok, Err, refl, sym, ap, ◌∙◌, append_assoc, append-nil}
 use Rattle.vax_lex.specs.Values.{Sense}
 use Rattle.vax_macro.specs.ArgumentViews.{argument_view, arguments_view}
 use Rattle.vax_macro.specs.Arguments.{Argument}

@@ -1,6 +1,5 @@
 -- One step after another.
-use Rattle.std.proofs.Common.{◌≡◌, ◌<◌, ◌-◌, ℕ, zero, suc, List, refl, arith}
-use Rattle.std.specs.Prelude.{Option}
+use Rattle.std.proofs.Common.{◌≡◌, ◌<◌, ◌-◌, ℕ, zero, suc, refl, arith}
 use Rattle.vax_lex.specs.Values.{Sense}
 use Rattle.vax_macro.specs.Rest.{Rest}
 use Rattle.vax_macro.specs.Expansion.{step, behind, opened}

@@ -1,5 +1,5 @@
 -- What an expander means.
-use Rattle.std.specs.Prelude.{◌≡◌, ℕ, ◌<◌, List, Option, Some, None, option_map, Result, Ok, Err}
+use Rattle.std.specs.Prelude.{◌≡◌, ℕ, ◌<◌, Option, Some, None, option_map, Result, Ok, Err}
 use Rattle.vax_lex.specs.Values.{Sense}
 use Rattle.vax_macro.specs.Rest.{Opening, Rest, work}
 use Rattle.vax_macro.specs.Directives.{Statement}

@@ -1,5 +1,5 @@
 -- How lines are read, with those that continue them.
-use Rattle.std.specs.Prelude.{◌≡◌, ℕ, ◌+◌, ◌*◌, ◌<◌, ◌≤◌, List, ◌∷◌, ◌++◌, length, Option, if◌then◌else◌}
+use Rattle.std.specs.Prelude.{◌≡◌, ℕ, ◌+◌, ◌*◌, ◌<◌, ◌≤◌, List, ◌∷◌, ◌++◌, length, if◌then◌else◌}
 use Rattle.vax_lex.specs.Tokens.{pieces_of}
 use Rattle.vax_lex.specs.Values.{Sense}
 use Rattle.vax_macro.specs.Expansion.{Stepped, Faults, Ends, line_step, read_on, joined_with, next_line_step, unclosed}

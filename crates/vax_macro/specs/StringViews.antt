@@ -1,5 +1,4 @@
 -- What the types of operators on texts mean.
-use Rattle.std.specs.Prelude.{ℕ, List}
 use Rattle.vax_macro.specs.Strings as specs
 use Rattle.vax_macro.specs.declared.strings.Operator as code_operator
 use Rattle.vax_macro.specs.declared.strings.Operator.TheVariants as operators

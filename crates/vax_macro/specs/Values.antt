@@ -1,5 +1,5 @@
 -- Arguments that are passed by value (VAX MACRO and Instruction Set Reference Manual, "Passing numeric values of symbols").
-use Rattle.std.specs.Prelude.{ℕ, ℤ, pos, negsuc, ◌+◌, Bool, true, false, List, [], ◌∷◌, drop, Option, Some, None, Result, Ok, Err, decimal, if◌then◌else◌}
+use Rattle.std.specs.Prelude.{ℕ, ℤ, pos, negsuc, ◌+◌, List, [], ◌∷◌, drop, Some, None, Result, Ok, Err, decimal, if◌then◌else◌}
 use Rattle.vax_lex.specs.Tokens.{pieces_of}
 use Rattle.vax_lex.specs.Values.{Sense}
 use Rattle.vax_macro.specs.Arguments.{Argument, begins_with}

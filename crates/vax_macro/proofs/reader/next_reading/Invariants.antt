@@ -1,5 +1,4 @@
-use Rattle.std.proofs.Common.{◌<◌, ◌-◌, ℕ, List}
-use Rattle.std.specs.Prelude.{Option}
+use Rattle.std.proofs.Common.{◌<◌, ◌-◌}
 use Rattle.vax_lex.specs.Values.{Sense}
 use Rattle.vax_macro.specs.Expansion.{next_line_step}
 use Rattle.vax_macro.specs.LineViews.{lines_of, reading_of}

@@ -1,4 +1,4 @@
-use Rattle.std.proofs.Common.{◌≡◌, ℕ, map, drop}
+use Rattle.std.proofs.Common.{◌≡◌, map, drop}
 use Rattle.vax_macro.specs.ArgumentViews.{argument_view}
 use Rattle.vax_macro.specs.Directives.{delete_all}
 use Rattle.vax_macro.specs.View.{rest_in}
