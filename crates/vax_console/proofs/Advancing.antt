@@ -13,7 +13,7 @@ use Rattle.vax_machine.specs.Paged.{Paged, all_evicted, all_named, attempted, at
 use Rattle.vax_machine.specs.Residence.{is_resident}
 use Rattle.vax_machine.specs.Run.{Runs}
 use Rattle.vax_machine.specs.declared.event.Limits.{Limits}
-use Rattle.vax_machine.proofs.Following.{turns_go}
+use Rattle.vax_machine.proofs.Following.{paged_follows}
 use Rattle.vax_machine.proofs.Tracking.{many_evicted}
 use Rattle.vax_console.specs.Transcript.{Session, advanced, step_by, stepped}
 use Rattle.vax_console.proofs.Outputs.{goes_ending}
@@ -166,28 +166,34 @@ next_makes s most p q g alive few h (inr more) =
       goes = goes_as s h.made q.place _ is h.goes;
     }
 
-at_start : (s : Session) (most : ℕ) (b : Paged) → b.place ≡ At s.machine → b.steps ≡ s.steps → Makes s most b
+at_start : (s : Session) (most : ℕ) (b : Paged) → GoesBy s.machine b.place → b.steps ≡ s.steps → Makes s most b
 unfolding advanced
-at_start s most b place steps = record {
+at_start s most b by steps = record {
   made = 0;
   few = omega arith;
   steps = omega (arith, steps);
   same = omega arith;
-  goes = subst (λ (z : Place). GoesBy s.machine z) (sym place) refl;
+  goes = by;
 }
 
-turns_go_on : (areas : List Area) (rules : List Rule) (count : ℕ) (b : Paged) (s : Session) → b.place ≡ At s.machine → b.steps ≡ s.steps → GoesOn s.steps s.machine (paged areas (due rules) count b)
-turns_go_on areas rules count b s place steps =
-    subst (λ (n : ℕ). GoesOn n s.machine (paged areas (due rules) count b)) steps (turns_go areas (due rules) count b s.machine place)
+turns_go_on : (areas : List Area) (rules : List Rule) (count : ℕ) (b : Paged) (s : Session) → GoesBy s.machine b.place → b.steps ≡ s.steps → GoesOn s.steps s.machine (paged areas (due rules) count b)
+unfolding run
+turns_go_on areas rules count b s by steps =
+    paged_follows areas (due rules) count b s.steps s.machine (record { made = 0; steps = omega (arith, steps); goes = by })
 
--- a run that wasn't stopped before is through so many of the session's steps
-pub run_makes : (limits : Limits) (areas : List Area) (rules : List Rule) (count most : ℕ) (b : Paged) (s : Session) → b.place ≡ At s.machine → b.steps ≡ s.steps → limits.steps ≡ s.steps + most → Runs limits areas rules b count → Makes s most (paged areas (due rules) count b)
+-- a run from a place by which the session's next step goes, and that wasn't stopped before, is through so many of the session's steps
+pub run_makes_by : (limits : Limits) (areas : List Area) (rules : List Rule) (count most : ℕ) (b : Paged) (s : Session) → GoesBy s.machine b.place → b.steps ≡ s.steps → limits.steps ≡ s.steps + most → Runs limits areas rules b count → Makes s most (paged areas (due rules) count b)
 unfolding paged stops
-run_makes limits areas rules zero most b s place steps limit goes = at_start s most b place steps
-run_makes limits areas rules (suc count) most b s place steps limit goes =
+run_makes_by limits areas rules zero most b s by steps limit goes = at_start s most b by steps
+run_makes_by limits areas rules (suc count) most b s by steps limit goes =
     let p = paged areas (due rules) count b in
     let on = goes.going count (omega arith) in
     let n = not_stopped (machine_at p.place).ending (nat_le limits.steps p.steps) (nat_le limits.turns p.turns) on in
     let below = is_below limits.steps p.steps n.1 in
     let low : p.steps < s.steps + most = omega (arith, below, limit) in
-    next_makes s most p (paged areas (due rules) (suc count) b) (turns_go_on areas rules count b s place steps) n.0 low (turns_go_on areas rules (suc count) b s place steps) (one_turn areas rules count b)
+    next_makes s most p (paged areas (due rules) (suc count) b) (turns_go_on areas rules count b s by steps) n.0 low (turns_go_on areas rules (suc count) b s by steps) (one_turn areas rules count b)
+
+-- so is one from where it begins
+pub run_makes : (limits : Limits) (areas : List Area) (rules : List Rule) (count most : ℕ) (b : Paged) (s : Session) → b.place ≡ At s.machine → b.steps ≡ s.steps → limits.steps ≡ s.steps + most → Runs limits areas rules b count → Makes s most (paged areas (due rules) count b)
+run_makes limits areas rules count most b s place steps limit goes =
+    run_makes_by limits areas rules count most b s (subst (λ (z : Place). GoesBy s.machine z) (sym place) refl) steps limit goes

@@ -12,7 +12,7 @@ use Rattle.vax_outside.specs.declared.faults.Failures.{Failures}
 use Rattle.vax_flat.specs.declared.Ending.{Ending}
 use Rattle.vax_flat.specs.Parts.{Place, At, Within, GoesBy, machine_at}
 use Rattle.vax_flat.specs.Step.{Flat}
-use Rattle.vax_cpu.specs.Attempt.{open_at}
+use Rattle.vax_machine.specs.Attempt.{open_at}
 use Rattle.vax_sched.specs.Due.{due}
 use Rattle.vax_sched.specs.declared.rule.Rule.{Rule}
 use Rattle.vax_report.specs.Lines.{line}
@@ -35,7 +35,7 @@ use Rattle.vax_console.specs.Transcript.{Session, advanced, answered, left, next
 use Rattle.vax_console.specs.Ends.{Advances, Causes, ChangesOnce, Goes, IsAt, IsOnTheWay, IsWithin, Replies, answer_of, session_on, writes}
 use Rattle.vax_console.specs.declared.stopped.Stopped.{Stopped}
 use Rattle.vax_console.specs.declared.stopped.Stopped.TheVariants as stopped
-use Rattle.vax_console.proofs.Advancing.{Makes, advanced_ended, advanced_stays, is_below, run_makes}
+use Rattle.vax_console.proofs.Advancing.{Makes, advanced_ended, advanced_stays, is_below, run_makes_by}
 use Rattle.vax_console.proofs.Outputs.{goes_output, steps_further}
 use Rattle.vax_console.proofs.Replying.{prefix_before, replied_goes, run_cut, run_lost, run_out, simple_goes}
 
@@ -58,13 +58,13 @@ record HasSent (from : Flat) (p : Paged) (more : Channels) : Type 0 where
   pub output : (machine_at p.place).output ≡ from.output ++ more.out
   pub only : more ≡ writes more.out []
 
-sent_of : (from : Flat) (p b : Paged) (more : Channels) → b.place ≡ At from → output_of false p ≡ append (output_of false b) more → HasSent from p more
+sent_of : (from : Flat) (p b : Paged) (more : Channels) → (machine_at b.place).output ≡ from.output → output_of false p ≡ append (output_of false b) more → HasSent from p more
 unfolding lines_of
 sent_of from p b more place e =
     let report : more.report ≡ [] = sym (ap (λ (z : Channels). z.report) e) in
     let recorded : more.recorded ≡ [] = sym (ap (λ (z : Channels). z.recorded) e) in
     record {
-      output = ap (λ (z : Channels). z.out) e ∙ ap (λ (z : Place). (machine_at z).output ++ more.out) place;
+      output = ap (λ (z : Channels). z.out) e ∙ ap (λ (z : List ℕ). z ++ more.out) place;
       only = λ i. record { out = more.out; report = report i; recorded = recorded i };
     }
 
@@ -132,38 +132,38 @@ by_turns None false false h = absurd (cc h)
 pub is_le : (a b : ℕ) → nat_le a b ≡ true → a ≤ b
 is_le a b h = grind (arith, nat_tests)
 
--- what a run of so many steps comes to
-advances : (end : RunEnd) (limits : Limits) (count : ℕ) (areas : List Area) (rules : List Rule) (flat : Flat) (m1 m2 : Engine) (f1 f2 : Option BlockFile) (old new : Option Channels) → (StopsBetween end → IsBetween m2) →
-    run_spec.Ends (limits_of limits m1.steps count) areas rules (begun m1 (At flat)) f1 end m2 f2 old new → Advances (answer_of end) limits count (session_on m1 flat) m2 f2 old new
+-- what a run of so many steps comes to, from a place by which the first of them goes
+pub advances_by : (end : RunEnd) (limits : Limits) (count : ℕ) (areas : List Area) (rules : List Rule) (flat : Flat) (place : Place) (m1 m2 : Engine) (f1 f2 : Option BlockFile) (old new : Option Channels) → GoesBy flat place → (StopsBetween end → IsBetween m2) →
+    run_spec.Ends (limits_of limits m1.steps count) areas rules (begun m1 place) f1 end m2 f2 old new → Advances (answer_of end) limits count (session_on m1 flat) m2 f2 old new
 unfolding stops
-advances (run_end.Ended e) limits count areas rules flat m1 m2 f1 f2 old new between w =
+advances_by (run_end.Ended e) limits count areas rules flat place m1 m2 f1 f2 old new by between w =
     let s = session_on m1 flat in
-    let b = begun m1 (At flat) in
+    let b = begun m1 place in
     let p = paged areas (due rules) w.count b in
-    let k = run_makes (limits_of limits m1.steps count) areas rules w.count count b s refl refl refl w.goes in
-    let sent = sent_of flat p b w.wrote.more refl w.wrote.is in
+    let k = run_makes_by (limits_of limits m1.steps count) areas rules w.count count b s by refl refl w.goes in
+    let sent = sent_of flat p b w.wrote.more (goes_output flat place by) w.wrote.is in
     let a = arrived s count p w.wrote.more m2 f2 old new k w.tracks.steps w.tracks.means (between tt).closed sent w.wrote.grew in
     let ended : (advanced k.made s).machine.ending ≡ Some e = sym a.1 ∙ by_ending (machine_at p.place).ending (nat_le (m1.steps + count) p.steps) (nat_le limits.turns p.turns) e w.stopped in
     let is = advanced_stays count k.made s e k.few ended in
     (sym (ap (λ (z : Session). z.machine.ending) is ∙ ended), at_as flat (advanced k.made s) (advanced count s) m2 f2 old new is a.0)
-advances run_end.Steps limits count areas rules flat m1 m2 f1 f2 old new between w =
+advances_by run_end.Steps limits count areas rules flat place m1 m2 f1 f2 old new by between w =
     let s = session_on m1 flat in
-    let b = begun m1 (At flat) in
+    let b = begun m1 place in
     let p = paged areas (due rules) w.count b in
-    let k = run_makes (limits_of limits m1.steps count) areas rules w.count count b s refl refl refl w.goes in
-    let sent = sent_of flat p b w.wrote.more refl w.wrote.is in
+    let k = run_makes_by (limits_of limits m1.steps count) areas rules w.count count b s by refl refl w.goes in
+    let sent = sent_of flat p b w.wrote.more (goes_output flat place by) w.wrote.is in
     let a = arrived s count p w.wrote.more m2 f2 old new k w.tracks.steps w.tracks.means (between tt).closed sent w.wrote.grew in
     let why = by_steps (machine_at p.place).ending (nat_le (m1.steps + count) p.steps) (nat_le limits.turns p.turns) w.stopped in
     let all : m1.steps + count ≤ p.steps = is_le (m1.steps + count) p.steps why.1 in
     let made : k.made ≡ count = let x = k.few in let y = k.steps in omega (arith, all, x, y) in
     let is : advanced count s ≡ advanced k.made s = ap (λ (n : ℕ). advanced n s) (sym made) in
     (sym (ap (λ (z : Session). z.machine.ending) is ∙ (sym a.1 ∙ why.0)), at_as flat (advanced k.made s) (advanced count s) m2 f2 old new is a.0)
-advances run_end.Turns limits count areas rules flat m1 m2 f1 f2 old new between w =
+advances_by run_end.Turns limits count areas rules flat place m1 m2 f1 f2 old new by between w =
     let s = session_on m1 flat in
-    let b = begun m1 (At flat) in
+    let b = begun m1 place in
     let p = paged areas (due rules) w.count b in
-    let k = run_makes (limits_of limits m1.steps count) areas rules w.count count b s refl refl refl w.goes in
-    let sent = sent_of flat p b w.wrote.more refl w.wrote.is in
+    let k = run_makes_by (limits_of limits m1.steps count) areas rules w.count count b s by refl refl w.goes in
+    let sent = sent_of flat p b w.wrote.more (goes_output flat place by) w.wrote.is in
     let why = by_turns (machine_at p.place).ending (nat_le (m1.steps + count) p.steps) (nat_le limits.turns p.turns) w.stopped in
     let reached : limits.turns ≤ p.turns = is_le limits.turns p.turns why.2 in
     let below : p.steps < m1.steps + count = is_below (m1.steps + count) p.steps why.1 in
@@ -175,22 +175,22 @@ advances run_end.Turns limits count areas rules flat m1 m2 f1 f2 old new between
       },
       within_run s count p w.wrote.more m2 f2 old new k w.tracks.steps w.tracks.means sent w.wrote.grew,
     )
-advances run_end.PageFault limits count areas rules flat m1 m2 f1 f2 old new between w =
+advances_by run_end.PageFault limits count areas rules flat place m1 m2 f1 f2 old new by between w =
     let s = session_on m1 flat in
-    let b = begun m1 (At flat) in
+    let b = begun m1 place in
     let p = paged areas (due rules) w.count b in
-    let k = run_makes (limits_of limits m1.steps count) areas rules w.count count b s refl refl refl (record { going = λ i l. w.goes.going i (omega (arith, l)) }) in
+    let k = run_makes_by (limits_of limits m1.steps count) areas rules w.count count b s by refl refl (record { going = λ i l. w.goes.going i (omega (arith, l)) }) in
     let q = all_evicted w.front p in
     let o = many_evicted w.front p in
-    let sent = sent_of flat q b w.wrote.more refl w.wrote.is in
+    let sent = sent_of flat q b w.wrote.more (goes_output flat place by) w.wrote.is in
     let here : HasSent flat p w.wrote.more = record { output = sym (ap (λ (z : Place). (machine_at z).output) o.place) ∙ sent.output; only = sent.only } in
     within_run s count p w.wrote.more m2 f2 old new k w.steps w.means here w.wrote.grew
-advances run_end.WriteFault limits count areas rules flat m1 m2 f1 f2 old new between w =
+advances_by run_end.WriteFault limits count areas rules flat place m1 m2 f1 f2 old new by between w =
     let s = session_on m1 flat in
-    let b = begun m1 (At flat) in
+    let b = begun m1 place in
     let p = paged areas (due rules) w.count b in
-    let k = run_makes (limits_of limits m1.steps count) areas rules w.count count b s refl refl refl w.goes in
-    let sent = sent_of flat p b w.wrote.more refl w.wrote.is in
+    let k = run_makes_by (limits_of limits m1.steps count) areas rules w.count count b s by refl refl w.goes in
+    let sent = sent_of flat p b w.wrote.more (goes_output flat place by) w.wrote.is in
     let whole = steps_further k.made count s k.few in
     let reached : (machine_at p.place).output ≡ (advanced k.made s).machine.output = goes_output (advanced k.made s).machine p.place k.goes in
     let wrote : GrewByPrefix old new (writes (w.wrote.more.out ++ whole.0) ([] ++ [])) = prefix_before old new w.wrote.more.out whole.0 [] [] (part_sent flat p w.wrote.more old new sent w.wrote.grew) in
@@ -203,7 +203,7 @@ advances run_end.WriteFault limits count areas rules flat m1 m2 f1 f2 old new be
 pub advances_from : (end : RunEnd) (limits : Limits) (count first : ℕ) (areas : List Area) (rules : List Rule) (flat : Flat) (m1 m2 : Engine) (f1 f2 : Option BlockFile) (old new : Option Channels) → first ≡ m1.steps → (StopsBetween end → IsBetween m2) →
     run_spec.Ends (limits_of limits first count) areas rules (begun m1 (At flat)) f1 end m2 f2 old new → Advances (answer_of end) limits count (session_on m1 flat) m2 f2 old new
 advances_from end limits count first areas rules flat m1 m2 f1 f2 old new e between w =
-    advances end limits count areas rules flat m1 m2 f1 f2 old new between (subst (λ (n : ℕ). run_spec.Ends (limits_of limits n count) areas rules (begun m1 (At flat)) f1 end m2 f2 old new) e w)
+    advances_by end limits count areas rules flat (At flat) m1 m2 f1 f2 old new refl between (subst (λ (n : ℕ). run_spec.Ends (limits_of limits n count) areas rules (begun m1 (At flat)) f1 end m2 f2 old new) e w)
 
 -- all steps were made, or the machine ended, where a run stops between two steps
 pub between_ok : (end : RunEnd) → IsOk (answer_of end) → StopsBetween end

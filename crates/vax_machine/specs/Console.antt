@@ -1,5 +1,6 @@
 -- What a console is shown of a machine, and what it changes.
 use Rattle.std.specs.Prelude.{ℕ, zero, suc, ◌≡◌, ◌+◌, ◌*◌, ◌<◌, ◌⊎◌, ◌/◌, ◌%◌, Bool, true, false, if◌then◌else◌, Option, Some, None, is_some, Result, Ok, Err, List, [], ◌∷◌, slice_index, slice_set}
+use Rattle.vax_word.specs.declared.Core.{Core}
 use Rattle.vax_space.specs.declared.Area.{Area}
 use Rattle.vax_space.specs.Areas.{area_of}
 use Rattle.vax_space.specs.Reference.{page_of}
@@ -90,6 +91,19 @@ with_register n value m = record m { core = record m.core { regs = slice_set m.c
 abbrev pub DepositsRegister : ℕ → ℕ → Engine → Engine → Type 0
 DepositsRegister n value old new =
     (file : Option BlockFile) → (m : Flat) → Means old file (At m) → Means new file (At (with_register n value m))
+
+-- all registers of the processor were changed
+abbrev pub cpu_with_core : Core → Cpu → Cpu
+cpu_with_core core cpu = record cpu { core = core }
+
+-- all registers of the flat machine were changed
+abbrev pub with_core : Core → Flat → Flat
+with_core core m = record m { core = core }
+
+-- so it was in each flat machine for which the machine stands
+abbrev pub DepositsCore : Core → Engine → Engine → Type 0
+DepositsCore core old new =
+    (file : Option BlockFile) → (m : Flat) → Means old file (At m) → Means new file (At (with_core core m))
 
 -- bytes of its memory were changed
 abbrev pub with_bytes : ℕ → List ℕ → Flat → Flat

@@ -18,3 +18,5 @@ pub mod Meaning
 pub mod Console
 pub mod Marking
 pub mod Depositing
+pub use Rattle.vax_cpu.specs.Attempt
+pub use Rattle.vax_cpu.specs.declared.cpu.Open

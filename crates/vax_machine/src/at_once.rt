@@ -8,7 +8,7 @@ ghost use Rattle.vax_pager.specs.Paging.{view_of};
 ghost use Rattle.vax_pager.specs.Steps.{OnlyWritten};
 ghost use Rattle.vax_machine.specs.AtOnce.{AreSteps};
 
-use vax_cpu::Cpu;
+use vax_cpu::{Cpu, is_still, run_at_once};
 use vax_pager::Pager;
 
 /// Makes at most `most` steps of a processor over its pages, each at once on the registers and with no byte sent, and says how many. It makes none where a string
@@ -26,8 +26,8 @@ pub(crate) fn steps_at_once(cpu: &mut Cpu, pager: &mut Pager, most: u64) -> u64
     ensures term { cpu.new.term ≡ cpu.old.term }
     ensures written { OnlyWritten (pages pager.old) (pages pager.new) }
 {
-    if cpu.latch.is_some() || !vax_quick::is_still(&cpu.core) {
+    if cpu.latch.is_some() || !is_still(&cpu.core) {
         return 0;
     }
-    vax_quick::run(&mut cpu.core, pager, most)
+    run_at_once(&mut cpu.core, pager, most)
 }

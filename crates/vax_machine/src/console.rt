@@ -13,6 +13,7 @@ use crate::engine::Engine;
 use vax_outside::PageFile;
 use vax_pager::{PageFault, Pager};
 use vax_space::{Access, PAGE_BYTES};
+use vax_word::Core;
 
 /// The page of an address, if an area has it: the page at hand, or where the address is in another, that one.
 fn page_at<F: PageFile>(
@@ -92,7 +93,8 @@ fn cell(page: &Option<[u8; 512]>, addr: u32) -> Option<u8>
 impl Engine {
     ghost use Rattle.vax_space.specs.Reference.{violation};
     ghost use Rattle.vax_flat.specs.Outcome.{is_allowed};
-    ghost use Rattle.vax_machine.specs.Console.{BringsPages, Deposits, DepositsRegister, ShowsMemory, cpu_with_register, let_go};
+    ghost use Rattle.vax_outside.specs.Blocks.{BlockFile};
+    ghost use Rattle.vax_machine.specs.Console.{BringsPages, Deposits, DepositsCore, DepositsRegister, ShowsMemory, cpu_with_core, cpu_with_register, let_go};
     ghost use Rattle.vax_machine.specs.Depositing.{DepositsIn, filed};
     ghost use Rattle.vax_machine.specs.Machine.{IsSound, KeepsPlace, keeping, modified_of};
     ghost use Rattle.vax_machine.specs.Marking.{Marks};
@@ -177,5 +179,33 @@ impl Engine {
         self.pager.settle();
         self.wanted = None;
         self.cpu.core.regs[n as usize] = value;
+    }
+
+    /// No page is pinned any more, and none is wanted.
+    pub(crate) fn let_go(&mut self)
+        requires sound { IsSound self.old }
+        ensures sound { IsSound self.new }
+        ensures cpu { self.new.cpu ≡ self.old.cpu }
+        ensures keeps { keeping self.new ≡ let_go (keeping self.old) }
+        ensures marks { modified_of self.new ≡ modified_of self.old }
+        ensures means { (file : Option BlockFile) → KeepsPlace self.old file self.new file }
+    {
+        self.pager.settle();
+        self.wanted = None;
+    }
+
+    /// Changes the registers, with the status and the stack pointers.
+    pub(crate) fn set_core(&mut self, core: Core)
+        requires sound { IsSound self.old }
+        requires closed { self.old.cpu.latch ≡ None }
+        ensures sound { IsSound self.new }
+        ensures cpu { self.new.cpu ≡ cpu_with_core core self.old.cpu }
+        ensures keeps { keeping self.new ≡ let_go (keeping self.old) }
+        ensures marks { modified_of self.new ≡ modified_of self.old }
+        ensures deposits { DepositsCore core self.old self.new }
+    {
+        self.pager.settle();
+        self.wanted = None;
+        self.cpu.core = core;
     }
 }

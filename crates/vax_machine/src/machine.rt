@@ -43,7 +43,7 @@ impl Machine {
     ghost use Rattle.vax_pager.specs.Listing.{first, is_listed};
     ghost use Rattle.vax_pager.specs.Poking.{OnlyRead, ReadsAtMost, WritesBlocks, pages_of_bytes};
     ghost use Rattle.vax_machine.specs.Batch.{HasAdvanced};
-    ghost use Rattle.vax_machine.specs.Console.{AreShown, BringsPages, Deposits, DepositsRegister, IsBetween, IsThereIn, ShowsMemory, ShowsPage, StopsBetween, cpu_with_register, let_go, pages_in};
+    ghost use Rattle.vax_machine.specs.Console.{AreShown, BringsPages, Deposits, DepositsCore, DepositsRegister, IsBetween, IsThereIn, MayGoOn, ShowsMemory, ShowsPage, StopsBetween, cpu_with_core, cpu_with_register, let_go, pages_in};
     ghost use Rattle.vax_machine.specs.Machine.{Applies, HasSpent, KeepsPlace, Means, Moves, has_failed, keeping, modified_of, residence};
     ghost use Rattle.vax_machine.specs.Marking.{Marks};
     ghost use Rattle.vax_machine.specs.Delivery.{Delivers};
@@ -182,6 +182,8 @@ impl Machine {
         ensures follows { KeepsRun (engine self.old) (F.contents file.old) (engine self.new)
             (F.contents file.new) }
         ensures between { StopsBetween result → IsBetween (engine self.old)
+            → IsBetween (engine self.new) }
+        ensures reaches { StopsBetween result → MayGoOn limits.now.steps (engine self.old)
             → IsBetween (engine self.new) }
         ensures turns { (engine self.old).turns ≤ (engine self.new).turns }
         ensures few { (engine self.old).turns ≤ limits.now.turns
@@ -324,6 +326,27 @@ impl Machine {
         self.engine.pager.spoiled()
     }
 
+    /// Whether the page is resident.
+    pub fn is_resident(&self, page: u32) -> bool
+        ensures { result ≡ is_listed page (memory_of self.now).order }
+    {
+        self.engine.pager.is_resident(page)
+    }
+
+    /// Whether the page is kept: it is absent, and still has its frame.
+    pub fn is_kept(&self, page: u32) -> bool
+        ensures { result ≡ is_listed page (memory_of self.now).kept }
+    {
+        self.engine.pager.is_kept(page)
+    }
+
+    /// Whether the page is resident, and was written to since it came in or was last written to its block.
+    pub fn is_modified(&self, page: u32) -> bool
+        ensures { result ≡ is_listed page (memory_of self.now).modified }
+    {
+        self.engine.pager.is_modified(page)
+    }
+
     /// Whether the page is pinned: the part of a step that is under way needs it.
     pub fn is_pinned(&self, page: u32) -> bool
         ensures { result ≡ is_listed page (residence (engine self.now)).pinned }
@@ -451,6 +474,35 @@ impl Machine {
         ensures deposits { DepositsRegister n value (engine self.old) (engine self.new) }
     {
         self.engine.set_reg(n, value);
+    }
+
+    /// No page is pinned afterwards, and none is wanted. Nothing else changes.
+    pub fn let_go(&mut self)
+        ensures cpu { (engine self.new).cpu ≡ (engine self.old).cpu }
+        ensures keeps { keeping (engine self.new) ≡ let_go (keeping (engine self.old)) }
+        ensures marks { modified_of (engine self.new) ≡ modified_of (engine self.old) }
+        ensures means { (file : Option BlockFile) →
+            KeepsPlace (engine self.old) file (engine self.new) file }
+    {
+        self.engine.let_go();
+    }
+
+    /// Changes the registers, with the status and the stack pointers; no string instruction is open. Afterwards no page is pinned and none is wanted.
+    pub fn set_core(&mut self, core: Core)
+        requires closed { (engine self.old).cpu.latch ≡ None }
+        ensures cpu { (engine self.new).cpu ≡ cpu_with_core core (engine self.old).cpu }
+        ensures keeps { keeping (engine self.new) ≡ let_go (keeping (engine self.old)) }
+        ensures marks { modified_of (engine self.new) ≡ modified_of (engine self.old) }
+        ensures deposits { DepositsCore core (engine self.old) (engine self.new) }
+    {
+        self.engine.set_core(core);
+    }
+
+    /// How many pages may be resident.
+    pub fn frames(&self) -> u32
+        ensures { result ≡ (memory_of self.now).frames }
+    {
+        self.engine.pager.frames()
     }
 
     /// The resident page that has been modified longest, none where none is modified.

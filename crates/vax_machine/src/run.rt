@@ -367,6 +367,8 @@ impl Engine {
             (underway_of self.new (F.contents file.new) (K.contents sink.new) held.new) }
         ensures follows { KeepsRun self.old (F.contents file.old) self.new (F.contents file.new) }
         ensures between { StopsBetween result → IsBetween self.old → IsBetween self.new }
+        ensures reaches { StopsBetween result → MayGoOn limits.now.steps self.old
+            → IsBetween self.new }
         ensures reason { HasReason limits.now self.new result }
         ensures steps { StopsBetween result → self.old.steps ≤ limits.now.steps
             → self.new.steps ≤ limits.now.steps }
@@ -415,6 +417,8 @@ impl Engine {
             (system_of self.new (F.contents file.new) (K.contents sink.new)) }
         ensures follows { KeepsRun self.old (F.contents file.old) self.new (F.contents file.new) }
         ensures between { StopsBetween result → IsBetween self.old → IsBetween self.new }
+        ensures reaches { StopsBetween result → MayGoOn limits.now.steps self.old
+            → IsBetween self.new }
         ensures turns { self.old.turns ≤ self.new.turns }
         ensures few { self.old.turns ≤ limits.now.turns → self.new.turns ≤ limits.now.turns }
         ensures areas { StopsBetween result

@@ -77,19 +77,30 @@ frames_set frames h f p bytes low here other = fun_ext (λ q. elim (cases_eq q p
 
 -- a step of one page
 
+-- the space stays, as do the frames in use and the room of the lists
+pub record Stays (s t : Store) : Type 0 where
+  pub space : t.space ≡ s.space
+  pub used : t.used ≡ s.used
+  pub limit : t.lists.limit ≡ s.lists.limit
+
+-- so many frames, each of 512 bytes
+pub record AreFrames (count : ℕ) (frames : List (List ℕ)) : Type 0 where
+  pub many : length frames ≡ count
+  pub whole : (frame : ℕ) → frame < length frames → length (slice_index_or frames frame []) ≡ 512
+  pub small : (frame i : ℕ) → slice_index (slice_index_or frames frame []) i < 256
+
+pub frames_are : (n : ℕ) (s : Store) → IsSound n s → AreFrames (length s.frames.items) s.frames.items
+frames_are n s h = record { many = refl; whole = h.whole; small = h.small }
+
 pub record Moved (m : ℕ) (s t : Store) (p : ℕ) (w : Walk) (k : Option ℕ) : Type 0 where
   pub changes : Changes s t.tables p w k
   pub buffer : buffered t.buffer ≡ dropped (buffered s.buffer) p
-  pub space : t.space ≡ s.space
+  pub stays : Stays s t
+  pub frames : AreFrames (length s.frames.items) t.frames.items
   pub here : Fits w k (frame_in t.lists.order p) (frame_in t.lists.kept p) (frame_in t.lists.modified p) (prot_of s.space p) (block_of s.space p) t.used
   pub other : (q : ℕ) → q ≢ p → Fits (walked s.tables q) (kept s.tables q) (frame_in t.lists.order q) (frame_in t.lists.kept q) (frame_in t.lists.modified q) (prot_of s.space q) (block_of s.space q) t.used
   pub fresh : (frame : ℕ) → held_by w k ≡ Some frame → (q : ℕ) → q ≢ p → held s q ≢ Some frame
   pub lengths : length t.lists.order + length t.lists.kept + m ≡ t.used
-  pub used : t.used ≡ s.used
-  pub frames : length t.frames.items ≡ length s.frames.items
-  pub whole : (frame : ℕ) → frame < length t.frames.items → length (slice_index_or t.frames.items frame []) ≡ 512
-  pub small : (frame i : ℕ) → slice_index (slice_index_or t.frames.items frame []) i < 256
-  pub limit : t.lists.limit ≡ s.lists.limit
   pub pins : t.pinned ≤ length t.lists.order
   pub once : are_once t.lists.order ≡ true
 
@@ -121,21 +132,21 @@ one_at h p x one fresh a b f ea eb = elim (cases_eq a p) [
 
 pub sound_moved : (n m : ℕ) (s t : Store) (p : ℕ) (w : Walk) (k : Option ℕ) → IsSound n s → Moved m s t p w k → IsSound m t
 sound_moved n m s t p w k h v = record {
-  fine = λ q. rw (v.changes.walk, v.changes.left, v.space) (elim (cases_eq q p) [
+  fine = λ q. rw (v.changes.walk, v.changes.left, v.stays.space) (elim (cases_eq q p) [
     | inl e ↦ rw (e, changed_here (walked s.tables) p w p refl, changed_here (kept s.tables) p k p refl) v.here
     | inr o ↦ rw (changed_other (walked s.tables) p w q o, changed_other (kept s.tables) p k q o) (v.other q o)
   ]);
   one = rw (held_changes s t p w k v.changes) (one_at (held s) p (held_by w k) h.one v.fresh);
   agrees = rw (v.buffer, v.changes.walk) (agrees_changed (buffered s.buffer) (walked s.tables) p w h.agrees);
   lengths = v.lengths;
-  used = rw (v.used, v.frames) h.used;
-  few = rw v.frames h.few;
-  whole = v.whole;
-  small = v.small;
-  limit = v.limit ∙ h.limit ∙ sym v.frames;
+  used = rw (v.stays.used, v.frames.many) h.used;
+  few = rw v.frames.many h.few;
+  whole = v.frames.whole;
+  small = v.frames.small;
+  limit = v.stays.limit ∙ h.limit ∙ sym v.frames.many;
   pins = v.pins;
   once = v.once;
-  space = rw v.space h.space;
+  space = rw v.stays.space h.space;
 }
 
 -- what the lists and the tables say of a page

@@ -9,7 +9,7 @@ use Rattle.vax_space.specs.Areas.{block_of, prot_of}
 use Rattle.vax_space.proofs.Blocks.{block_page}
 use Rattle.vax_outside.specs.Faults.{raised}
 use Rattle.vax_table.specs.declared.Walk.{Walk}
-use Rattle.vax_table.specs.declared.Walk.TheVariants.{Resident, Absent, Outside}
+use Rattle.vax_table.specs.declared.Walk.TheVariants.{Resident, Outside}
 use Rattle.vax_table.specs.declared.Tables.{Tables}
 use Rattle.vax_table.specs.Mapping.{cleared, frame_of, is_inside, is_resident, marked, prot_said, set_in}
 use Rattle.vax_table.specs.Tables.{walked, kept}
@@ -27,7 +27,7 @@ use Rattle.vax_pager.specs.Frames.{held_by, dirty_frame}
 use Rattle.vax_pager.specs.Store.{held, flag_of, has_block, last_of, lowered_if, paging, Fits, IsSound, IsFree}
 use Rattle.vax_pager.proofs.Listing.{pages_push, pages_without, pages-length, out_none, out-append, listed_is, once_left, once_more}
 use Rattle.vax_pager.proofs.Last.{drop_push, last_none, last_parts, last-length, one_less}
-use Rattle.vax_pager.proofs.Moves.{at_same, at_other, Changes, sound_moved, held_changes, frames_of, frames_same, frames_gone, frames_set, held_low, order_held, kept_held, modified_held, resident_is, kept_is, one_held}
+use Rattle.vax_pager.proofs.Moves.{at_same, at_other, Changes, sound_moved, frames_are, held_changes, frames_of, frames_same, frames_gone, frames_set, held_low, order_held, kept_held, modified_held, resident_is, kept_is, one_held}
 
 -- lists at the page of a step, and at another
 gone_here : (p : ℕ) (xs : List Placed) → frame_in (without p xs) p ≡ None
@@ -42,94 +42,32 @@ came_here p f xs new = in_appended xs p p f new ∙ rw (eq-eqb p p refl) refl
 pub came_other : (p q f : ℕ) (xs : List Placed) → frame_in xs p ≡ None → q ≢ p → frame_in (xs ++ placed p f ∷ []) q ≡ frame_in xs q
 came_other p q f xs new o = in_appended xs p q f new ∙ rw (ne_eqb q p o) refl
 
--- what is so of the page of a step
-
-fits_flushed : (walk : Walk) (left o k m : Option ℕ) (prot block : Option ℕ) (f : ℕ) (u : ℕ) → Fits walk left o k m prot block u → dirty_frame walk ≡ Some f → Fits (set_in walk f) None o k None prot block u
-fits_flushed (Resident g pr true) left o k m prot block f u h e = record {
-  order = h.order ∙ e;
-  kept = h.kept ∙ h.apart refl;
-  modified = refl;
+-- what is so of the page of a step: it is in a frame and not modified, or in none
+fits_in : (walk : Walk) (o k m prot block : Option ℕ) (f u : ℕ) → is_inside walk ≡ true → prot_said walk ≡ prot → f < u → o ≡ Some f → k ≡ None → m ≡ None → Fits (set_in walk f) None o k m prot block u
+fits_in (Outside past) o k m prot block f u i area low eo ek em = absurd (false≢true i)
+fits_in walk o k m prot block f u i area low eo ek em = record {
+  order = eo;
+  kept = ek;
+  modified = em;
   apart = λ x. refl;
   inside = λ x. refl;
   writable = λ x. absurd (false≢true x);
-  area = h.area;
-  holds = λ frame x. h.holds frame (e ∙ x);
+  area = area;
+  holds = λ frame x. let same : f ≡ frame = cc in subst (λ (z : ℕ). z < u) same low;
 }
-fits_flushed (Resident g pr false) left o k m prot block f u h e = cc
-fits_flushed (Absent pr) left o k m prot block f u h e = cc
-fits_flushed (Outside past) left o k m prot block f u h e = cc
 
-fits_released : (walk : Walk) (left o k m : Option ℕ) (prot block : Option ℕ) (u : ℕ) → Fits walk left o k m prot block u → is_resident walk ≡ true → dirty_frame walk ≡ None → Fits (cleared walk) (frame_of walk) None (frame_of walk) m prot block u
-fits_released (Resident f pr true) left o k m prot block u h r c = cc
-fits_released (Resident f pr false) left o k m prot block u h r c = record {
-  order = refl;
-  kept = refl;
-  modified = h.modified;
+fits_out : (walk : Walk) (left o k m prot block : Option ℕ) (u : ℕ) → is_inside walk ≡ true → prot_said walk ≡ prot → ((frame : ℕ) → left ≡ Some frame → frame < u) → o ≡ None → k ≡ left → m ≡ None → Fits (cleared walk) left o k m prot block u
+fits_out (Outside past) left o k m prot block u i area low eo ek em = absurd (false≢true i)
+fits_out walk left o k m prot block u i area low eo ek em = record {
+  order = eo;
+  kept = ek;
+  modified = em;
   apart = λ x. absurd (false≢true x);
   inside = λ x. refl;
   writable = λ x. absurd (false≢true x);
-  area = h.area;
-  holds = h.holds;
+  area = area;
+  holds = low;
 }
-fits_released (Absent pr) left o k m prot block u h r c = absurd (false≢true r)
-fits_released (Outside past) left o k m prot block u h r c = absurd (false≢true r)
-
-fits_taken : (walk : Walk) (left o k m : Option ℕ) (prot block : Option ℕ) (f : ℕ) (u : ℕ) → Fits walk left o k m prot block u → left ≡ Some f → Fits (set_in walk f) None (Some f) None m prot block u
-fits_taken (Resident g pr md) left o k m prot block f u h e = let none = h.apart refl in cc
-fits_taken (Absent pr) left o k m prot block f u h e = record {
-  order = refl;
-  kept = refl;
-  modified = h.modified;
-  apart = λ x. refl;
-  inside = λ x. refl;
-  writable = λ x. absurd (false≢true x);
-  area = h.area;
-  holds = λ frame x. h.holds frame (e ∙ x);
-}
-fits_taken (Outside past) left o k m prot block f u h e = let bad : false ≡ true = h.inside (rw e refl) in absurd (false≢true bad)
-
-fits_forgotten : (walk : Walk) (left o k m : Option ℕ) (prot block : Option ℕ) (f : ℕ) (u : ℕ) → Fits walk left o k m prot block u → left ≡ Some f → Fits (cleared walk) None o None m prot block u
-fits_forgotten (Resident g pr md) left o k m prot block f u h e = let none = h.apart refl in cc
-fits_forgotten (Absent pr) left o k m prot block f u h e = record {
-  order = h.order;
-  kept = refl;
-  modified = h.modified;
-  apart = λ x. refl;
-  inside = λ x. refl;
-  writable = h.writable;
-  area = h.area;
-  holds = λ frame x. cc;
-}
-fits_forgotten (Outside past) left o k m prot block f u h e = let bad : false ≡ true = h.inside (rw e refl) in absurd (false≢true bad)
-
-fits_given : (walk : Walk) (left o k m : Option ℕ) (prot block : Option ℕ) (u : ℕ) → Fits walk left o k m prot block u → is_resident walk ≡ true → dirty_frame walk ≡ None → Fits (cleared walk) None None k m prot block u
-fits_given (Resident f pr true) left o k m prot block u h r c = cc
-fits_given (Resident f pr false) left o k m prot block u h r c = record {
-  order = refl;
-  kept = h.kept ∙ h.apart refl;
-  modified = h.modified;
-  apart = λ x. refl;
-  inside = λ x. refl;
-  writable = λ x. absurd (false≢true x);
-  area = h.area;
-  holds = λ frame x. cc;
-}
-fits_given (Absent pr) left o k m prot block u h r c = absurd (false≢true r)
-fits_given (Outside past) left o k m prot block u h r c = absurd (false≢true r)
-
-fits_brought : (walk : Walk) (left o k m : Option ℕ) (prot block : Option ℕ) (f : ℕ) (u : ℕ) → Fits walk left o k m prot block u → is_some prot ≡ true → is_resident walk ≡ false → left ≡ None → f < u → Fits (set_in walk f) None (Some f) k m prot block u
-fits_brought (Resident g pr md) left o k m prot block f u h w r e low = absurd (false≢true (sym r))
-fits_brought (Absent pr) left o k m prot block f u h w r e low = record {
-  order = refl;
-  kept = h.kept ∙ e;
-  modified = h.modified;
-  apart = λ x. refl;
-  inside = λ x. refl;
-  writable = λ x. absurd (false≢true x);
-  area = h.area;
-  holds = λ frame x. let same : f ≡ frame = cc in subst (λ (z : ℕ). z < u) same low;
-}
-fits_brought (Outside past) left o k m prot block f u h w r e low = let bad : false ≡ true = ap is_some h.area ∙ w in absurd (false≢true bad)
 
 pub fits_marked : (walk : Walk) (left o k m : Option ℕ) (prot block : Option ℕ) (f : ℕ) (u : ℕ) → Fits walk left o k m prot block u → frame_of walk ≡ Some f → is_some block ≡ true → Fits (marked walk) None o k (Some f) prot block u
 fits_marked (Resident g pr md) left o k m prot block f u h e w = record {
@@ -142,39 +80,36 @@ fits_marked (Resident g pr md) left o k m prot block f u h e w = record {
   area = h.area;
   holds = h.holds;
 }
-fits_marked (Absent pr) left o k m prot block f u h e w = cc
-fits_marked (Outside past) left o k m prot block f u h e w = cc
+fits_marked walk left o k m prot block f u h e w = cc
 
 -- frames that a step of marks leaves
 set_held : (walk : Walk) (left : Option ℕ) (f : ℕ) → is_inside walk ≡ true → held_by (set_in walk f) None ≡ Some f
-set_held (Resident g pr md) left f i = refl
-set_held (Absent pr) left f i = refl
 set_held (Outside past) left f i = absurd (false≢true i)
+set_held walk left f i = refl
 
 pub dirty_inside : (walk : Walk) (f : ℕ) → dirty_frame walk ≡ Some f → is_inside walk ≡ true
 dirty_inside (Resident g pr md) f e = refl
-dirty_inside (Absent pr) f e = cc
-dirty_inside (Outside past) f e = cc
+dirty_inside walk f e = cc
+
+dirty_is : (walk : Walk) (f : ℕ) → dirty_frame walk ≡ Some f → frame_of walk ≡ Some f
+dirty_is (Resident g pr true) f e = e
+dirty_is walk f e = cc
 
 released_held : (walk : Walk) (left : Option ℕ) → is_resident walk ≡ true → held_by (cleared walk) (frame_of walk) ≡ held_by walk left
 released_held (Resident f pr md) left r = refl
-released_held (Absent pr) left r = absurd (false≢true r)
-released_held (Outside past) left r = absurd (false≢true r)
+released_held walk left r = absurd (false≢true r)
 
 cleared_held : (walk : Walk) → held_by (cleared walk) None ≡ None
 cleared_held (Resident f pr md) = refl
-cleared_held (Absent pr) = refl
-cleared_held (Outside past) = refl
+cleared_held walk = refl
 
 pub marked_held : (walk : Walk) (left : Option ℕ) → is_resident walk ≡ true → held_by (marked walk) None ≡ held_by walk left
 marked_held (Resident f pr md) left r = refl
-marked_held (Absent pr) left r = absurd (false≢true r)
-marked_held (Outside past) left r = absurd (false≢true r)
+marked_held walk left r = absurd (false≢true r)
 
 pub none_frame : (walk : Walk) → is_resident walk ≡ false → frame_of walk ≡ None
 none_frame (Resident f pr md) r = absurd (false≢true (sym r))
-none_frame (Absent pr) r = refl
-none_frame (Outside past) r = refl
+none_frame walk r = refl
 
 pub no_some : (o : Option ℕ) → is_some o ≡ false → o ≡ None
 no_some None h = refl
@@ -182,18 +117,23 @@ no_some (Some x) h = absurd (false≢true (sym h))
 
 is_there : (walk : Walk) (f : ℕ) → frame_of walk ≡ Some f → is_resident walk ≡ true
 is_there (Resident g pr md) f e = refl
-is_there (Absent pr) f e = cc
-is_there (Outside past) f e = cc
+is_there walk f e = cc
+
+there_inside : (walk : Walk) → is_resident walk ≡ true → is_inside walk ≡ true
+there_inside (Resident f pr md) r = refl
+there_inside walk r = absurd (false≢true r)
+
+none_dirty : (walk : Walk) → frame_of walk ≡ None → dirty_frame walk ≡ None
+none_dirty (Resident f pr md) e = cc
+none_dirty walk e = refl
 
 pub kept_absent : (walk : Walk) (left : Option ℕ) (f : ℕ) → (is_resident walk ≡ true → left ≡ None) → left ≡ Some f → frame_of walk ≡ None
 kept_absent (Resident g pr md) left f apart e = let none = apart refl in cc
-kept_absent (Absent pr) left f apart e = refl
-kept_absent (Outside past) left f apart e = refl
+kept_absent walk left f apart e = refl
 
 pub area_inside : (walk : Walk) (prot : Option ℕ) → prot_said walk ≡ prot → is_some prot ≡ true → is_inside walk ≡ true
-area_inside (Resident g pr md) prot e h = refl
-area_inside (Absent pr) prot e h = refl
 area_inside (Outside past) prot e h = absurd (false≢true (ap is_some e ∙ h))
+area_inside walk prot e h = refl
 
 fits_more : (walk : Walk) (left o k m : Option ℕ) (prot block : Option ℕ) (u : ℕ) → Fits walk left o k m prot block u → Fits walk left o k m prot block (u + 1)
 fits_more walk left o k m prot block u h = record {
@@ -304,19 +244,20 @@ flags_set marks areas p n b = fun_ext (λ q. elim (cases_eq q p) [
 
 pub sound_flushed : (s : Store) (p f w : ℕ) (tables : Tables) (buffer : Buffer) (lists : PageLists) (blocked : List ℕ) → Changes s tables p (set_in (walked s.tables p) f) None → buffered buffer ≡ dropped (buffered s.buffer) p → lists ≡ with_modified s.lists (without p s.lists.modified) → frame_in s.lists.modified p ≡ Some f → IsSound 0 s → IsSound 0 (record s { tables = tables; buffer = buffer; lists = lists; blocked = blocked; written = w })
 sound_flushed s p f w tables buffer lists blocked c b el there h =
+    let fine = h.fine p in
+    let dirty : dirty_frame (walked s.tables p) ≡ Some f = sym fine.modified ∙ there in
+    let inside = dirty_inside (walked s.tables p) f dirty in
+    let here : frame_of (walked s.tables p) ≡ Some f = dirty_is (walked s.tables p) f dirty in
+    let same = modified_held 0 s p f h there in
     sound_moved 0 0 s (record s { tables = tables; buffer = buffer; lists = lists; blocked = blocked; written = w }) p (set_in (walked s.tables p) f) None h (record {
       changes = c;
       buffer = b;
-      space = refl;
-      here = rw (el, gone_here p s.lists.modified) (fits_flushed (walked s.tables p) _ _ _ _ _ _ f _ (h.fine p) (sym (h.fine p).modified ∙ there));
+      stays = record { space = refl; used = refl; limit = rw el refl };
+      frames = frames_are 0 s h;
+      here = rw el (fits_in (walked s.tables p) _ _ _ _ _ f _ inside fine.area (held_low 0 s p f h same) (fine.order ∙ here) (fine.kept ∙ fine.apart (is_there (walked s.tables p) f here)) (gone_here p s.lists.modified));
       other = λ q o. rw (el, gone_other p q s.lists.modified o) (h.fine q);
-      fresh = λ g e q o. one_held 0 s p g h (modified_held 0 s p f h there ∙ sym (set_held (walked s.tables p) None f (dirty_inside (walked s.tables p) f (sym (h.fine p).modified ∙ there))) ∙ e) q o;
+      fresh = λ g e q o. one_held 0 s p g h (same ∙ sym (set_held (walked s.tables p) None f inside) ∙ e) q o;
       lengths = rw el h.lengths;
-      used = refl;
-      frames = refl;
-      whole = h.whole;
-      small = h.small;
-      limit = rw el refl;
       once = rw el h.once;
       pins = rw el h.pins;
     })
@@ -345,21 +286,18 @@ sound_released s p f ev sp pn tables buffer lists c b el fewer en there clean h 
     let r = is_there (walked s.tables p) f here in
     let d : dirty_frame (walked s.tables p) ≡ None = no_some _ (sym (listed_is p s.lists.modified ∙ ap is_some fine.modified) ∙ clean) in
     let new : frame_in s.lists.kept p ≡ None = fine.kept ∙ fine.apart r in
-    let base = fits_released (walked s.tables p) _ _ _ _ _ _ _ fine r d in
+    let base = fits_out (walked s.tables p) (frame_of (walked s.tables p)) _ _ _ _ _ _ (there_inside (walked s.tables p) r) fine.area (λ frame e. held_low 0 s p frame h (order_held 0 s p frame h (fine.order ∙ e)))
+    (gone_here p s.lists.order) (came_here p f s.lists.kept new ∙ sym here) (fine.modified ∙ d) in
     let less : length (without p s.lists.order) + 1 ≡ length s.lists.order = rw el at fewer in
     sound_moved 0 0 s (record s { tables = tables; buffer = buffer; lists = lists; pinned = pn; evicted = ev; spoiled = sp }) p (cleared (walked s.tables p)) (frame_of (walked s.tables p)) h (record {
       changes = c;
       buffer = b;
-      space = refl;
-      here = rw (el, gone_here p s.lists.order, came_here p f s.lists.kept new, ← here) base;
+      stays = record { space = refl; used = refl; limit = rw el refl };
+      frames = frames_are 0 s h;
+      here = rw el base;
       other = λ q d. rw (el, gone_other p q s.lists.order d, came_other p q f s.lists.kept new d) (h.fine q);
       fresh = λ g e q o. one_held 0 s p g h (kept_same s p r ∙ e) q o;
       lengths = rw el (omega (arith, h.lengths, less, length-append s.lists.kept (placed p f ∷ [])));
-      used = refl;
-      frames = refl;
-      whole = h.whole;
-      small = h.small;
-      limit = rw el refl;
       once = rw el (once_left p s.lists.order h.once);
       pins = rw (el, en) (lowered_few s p h.pins less);
     })
@@ -385,22 +323,21 @@ pub sound_taken : (s : Store) (p f se pn : ℕ) (tables : Tables) (buffer : Buff
 sound_taken s p f se pn tables buffer lists c b el fewer en there h =
     let fine = h.fine p in
     let left : kept s.tables p ≡ Some f = sym fine.kept ∙ there in
-    let new : frame_in s.lists.order p ≡ None = fine.order ∙ kept_absent (walked s.tables p) (kept s.tables p) f fine.apart left in
-    let base = fits_taken (walked s.tables p) _ _ _ _ _ _ f _ fine left in
+    let inside = fine.inside (rw left refl) in
+    let absent = kept_absent (walked s.tables p) (kept s.tables p) f fine.apart left in
+    let new : frame_in s.lists.order p ≡ None = fine.order ∙ absent in
+    let same = kept_held 0 s p f h there in
+    let base = fits_in (walked s.tables p) _ _ _ _ _ f _ inside fine.area (held_low 0 s p f h same) (came_here p f s.lists.order new) (gone_here p s.lists.kept) (fine.modified ∙ none_dirty (walked s.tables p) absent) in
     let less : length (without p s.lists.kept) + 1 ≡ length s.lists.kept = rw el at fewer in
     sound_moved 0 0 s (record s { tables = tables; buffer = buffer; lists = lists; pinned = pn; served = se }) p (set_in (walked s.tables p) f) None h (record {
       changes = c;
       buffer = b;
-      space = refl;
-      here = rw (el, came_here p f s.lists.order new, gone_here p s.lists.kept) base;
+      stays = record { space = refl; used = refl; limit = rw el refl };
+      frames = frames_are 0 s h;
+      here = rw el base;
       other = λ q d. rw (el, came_other p q f s.lists.order new d, gone_other p q s.lists.kept d) (h.fine q);
-      fresh = λ g e q o. one_held 0 s p g h (kept_held 0 s p f h there ∙ sym (set_held (walked s.tables p) None f (fine.inside (rw left refl))) ∙ e) q o;
+      fresh = λ g e q o. one_held 0 s p g h (same ∙ sym (set_held (walked s.tables p) None f inside) ∙ e) q o;
       lengths = rw el (omega (arith, h.lengths, less, length-append s.lists.order (placed p f ∷ [])));
-      used = refl;
-      frames = refl;
-      whole = h.whole;
-      small = h.small;
-      limit = rw el refl;
       once = rw el (once_more s.lists.order p f new h.once);
       pins = rw (el, en) (omega (arith, h.pins, length-append s.lists.order (placed p f ∷ [])));
     })
@@ -425,21 +362,18 @@ pub sound_forgotten : (s : Store) (p f : ℕ) (tables : Tables) (buffer : Buffer
 sound_forgotten s p f tables buffer lists c b el fewer there h =
     let fine = h.fine p in
     let left : kept s.tables p ≡ Some f = sym fine.kept ∙ there in
-    let base = fits_forgotten (walked s.tables p) _ _ _ _ _ _ f _ fine left in
+    let absent = kept_absent (walked s.tables p) (kept s.tables p) f fine.apart left in
+    let base = fits_out (walked s.tables p) None _ _ _ _ _ _ (fine.inside (rw left refl)) fine.area (λ g e. absurd (no_none g e)) (fine.order ∙ absent) (gone_here p s.lists.kept) (fine.modified ∙ none_dirty (walked s.tables p) absent) in
     let less : length (without p s.lists.kept) + 1 ≡ length s.lists.kept = rw el at fewer in
     sound_moved 0 1 s (record s { tables = tables; buffer = buffer; lists = lists }) p (cleared (walked s.tables p)) None h (record {
       changes = c;
       buffer = b;
-      space = refl;
-      here = rw (el, gone_here p s.lists.kept) base;
+      stays = record { space = refl; used = refl; limit = rw el refl };
+      frames = frames_are 0 s h;
+      here = rw el base;
       other = λ q d. rw (el, gone_other p q s.lists.kept d) (h.fine q);
       fresh = λ g e q o. absurd (no_none g (sym (cleared_held (walked s.tables p)) ∙ e));
       lengths = rw el (omega (arith, h.lengths, less));
-      used = refl;
-      frames = refl;
-      whole = h.whole;
-      small = h.small;
-      limit = rw el refl;
       once = rw el h.once;
       pins = rw el h.pins;
     })
@@ -477,21 +411,17 @@ sound_given s p f ev tables buffer lists c b el fewer there clean unpinned h =
     let fine = h.fine p in
     let r = is_there (walked s.tables p) f (sym fine.order ∙ there) in
     let d : dirty_frame (walked s.tables p) ≡ None = no_some _ (sym (listed_is p s.lists.modified ∙ ap is_some fine.modified) ∙ clean) in
-    let base = fits_given (walked s.tables p) _ _ _ _ _ _ _ fine r d in
+    let base = fits_out (walked s.tables p) None _ _ _ _ _ _ (there_inside (walked s.tables p) r) fine.area (λ g e. absurd (no_none g e)) (gone_here p s.lists.order) (fine.kept ∙ fine.apart r) (fine.modified ∙ d) in
     let less : length (without p s.lists.order) + 1 ≡ length s.lists.order = rw el at fewer in
     sound_moved 0 1 s (record s { tables = tables; buffer = buffer; lists = lists; evicted = ev }) p (cleared (walked s.tables p)) None h (record {
       changes = c;
       buffer = b;
-      space = refl;
-      here = rw (el, gone_here p s.lists.order) base;
+      stays = record { space = refl; used = refl; limit = rw el refl };
+      frames = frames_are 0 s h;
+      here = rw el base;
       other = λ q d. rw (el, gone_other p q s.lists.order d) (h.fine q);
       fresh = λ g e q o. absurd (no_none g (sym (cleared_held (walked s.tables p)) ∙ e));
       lengths = rw el (omega (arith, h.lengths, less));
-      used = refl;
-      frames = refl;
-      whole = h.whole;
-      small = h.small;
-      limit = rw el refl;
       once = rw el (once_left p s.lists.order h.once);
       pins = rw el (few_out s p h.pins unpinned);
     })
@@ -570,20 +500,17 @@ sound_brought s p f se pn bytes tables buffer frames lists c b ef el en within a
     let new : frame_in s.lists.order p ≡ None = fine.order ∙ none_frame (walked s.tables p) r in
     let low : f < length s.frames.items = omega (arith, free.below, h.used) in
     let lens : length frames.items ≡ length s.frames.items = ap length ef ∙ length-set s.frames.items f bytes in
-    let base = fits_brought (walked s.tables p) _ _ _ _ _ _ f _ fine within r left free.below in
+    let inside = area_inside (walked s.tables p) _ fine.area within in
+    let base = fits_in (walked s.tables p) _ _ _ _ _ f _ inside fine.area free.below (came_here p f s.lists.order new) (fine.kept ∙ left) (fine.modified ∙ none_dirty (walked s.tables p) (none_frame (walked s.tables p) r)) in
     sound_moved 1 0 s (record s { tables = tables; buffer = buffer; frames = frames; lists = lists; pinned = pn; served = se }) p (set_in (walked s.tables p) f) None h (record {
       changes = c;
       buffer = b;
-      space = refl;
-      here = rw (el, came_here p f s.lists.order new) base;
+      stays = record { space = refl; used = refl; limit = rw el refl };
+      frames = record { many = lens; whole = rw ef (whole_set s.frames.items f bytes size h.whole); small = rw ef (small_set s.frames.items f bytes low few h.small) };
+      here = rw el base;
       other = λ q d. rw (el, came_other p q f s.lists.order new d) (h.fine q);
-      fresh = λ g e q o. came_free s p f g (sym (set_held (walked s.tables p) None f (area_inside (walked s.tables p) _ fine.area within)) ∙ e) free q;
+      fresh = λ g e q o. came_free s p f g (sym (set_held (walked s.tables p) None f inside) ∙ e) free q;
       lengths = rw el (omega (arith, h.lengths, length-append s.lists.order (placed p f ∷ [])));
-      used = refl;
-      frames = lens;
-      whole = rw ef (whole_set s.frames.items f bytes size h.whole);
-      small = rw ef (small_set s.frames.items f bytes low few h.small);
-      limit = rw el refl;
       once = rw el (once_more s.lists.order p f new h.once);
       pins = rw (el, en) (omega (arith, h.pins, length-append s.lists.order (placed p f ∷ [])));
     })

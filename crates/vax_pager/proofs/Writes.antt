@@ -26,7 +26,7 @@ use Rattle.vax_pager.specs.Steps.{OnlyWritten, at, filled, touched, touched_by, 
 use Rattle.vax_pager.specs.Frames.{held_by}
 use Rattle.vax_pager.specs.Store.{IsSound, has_block, held, overwritten, paging}
 use Rattle.vax_pager.proofs.Listing.{in_push, pages_push}
-use Rattle.vax_pager.proofs.Moves.{Changes, at_itself, frames_of, frames_set, frame_means, held_changes, held_room, modified_is, one_held, resident_is, sound_moved}
+use Rattle.vax_pager.proofs.Moves.{Changes, at_itself, frames_of, frames_set, frame_means, held_changes, held_room, modified_is, one_held, resident_is, sound_moved, frames_are}
 use Rattle.vax_pager.proofs.Steps.{came_here, came_other, fits_marked, marked_held, no_some, small_set, whole_set}
 use Rattle.vax_pager.proofs.Views.{get_same, only_filled, only_then, only_touched, over_inside, over_outside, run_touched, view_filled}
 
@@ -62,16 +62,12 @@ sound_touched s p f tables buffer lists c b el there resident clean writable h =
     sound_moved 0 0 s (record s { tables = tables; buffer = buffer; lists = lists }) p (marked (walked s.tables p)) None h (record {
       changes = c;
       buffer = b;
-      space = refl;
+      stays = record { space = refl; used = refl; limit = rw el refl };
+      frames = frames_are 0 s h;
       here = rw (el, came_here p f s.lists.modified new) base;
       other = λ q o. rw (el, came_other p q f s.lists.modified new o) (h.fine q);
       fresh = λ g e q o. one_held 0 s p g h (sym (marked_same s p r) ∙ e) q o;
       lengths = rw el h.lengths;
-      used = refl;
-      frames = refl;
-      whole = h.whole;
-      small = h.small;
-      limit = rw el refl;
       once = rw el h.once;
       pins = rw el h.pins;
     })

@@ -262,6 +262,20 @@ impl Pager {
         self.store.kept()
     }
 
+    /// Whether the page is kept: it is absent, and still has its frame.
+    pub fn is_kept(&self, page: u32) -> bool
+        ensures { result ≡ is_listed page (pages self.now).kept }
+    {
+        self.store.kept_frame(page).is_some()
+    }
+
+    /// Whether the page is resident and modified.
+    pub fn is_modified(&self, page: u32) -> bool
+        ensures { result ≡ is_listed page (pages self.now).modified }
+    {
+        self.store.modified_frame(page).is_some()
+    }
+
     /// The resident page that has been modified longest, none where none is modified.
     pub fn next_flush(&self) -> Option<u32>
         ensures { result ≡ first (pages self.now).modified }

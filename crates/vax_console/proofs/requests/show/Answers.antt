@@ -1,5 +1,5 @@
 use Rattle.std.proofs.Common.{◌≡◌, ◌∙◌, [], Option, ap, refl}
-use Rattle.vax_cpu.specs.declared.cpu.Open.{Open}
+use Rattle.vax_machine.specs.Open.{Open}
 use Rattle.vax_report.specs.Report.{report}
 use Rattle.vax_report.specs.declared.Last.{Last}
 use Rattle.vax_machine.specs.Meaning.{engine, units_of}

@@ -5,7 +5,7 @@ use Rattle.vax_cpu.proofs.Quick.{ran_quick}
 use Rattle.vax_cpu.proofs.Runs.{at_start, reaches}
 use Rattle.vax_cpu.specs.Attempt.{flat_of}
 use Rattle.vax_cpu.specs.declared.cpu.Cpu.{Cpu}
-use Rattle.vax_quick.specs.Made.{Computer}
+use Rattle.vax_cpu.specs.Made.{Computer}
 use Rattle.vax_pager.proofs.Views.{only_itself}
 use Rattle.vax_pager.specs.Meaning.{pages}
 use Rattle.vax_pager.specs.Paging.{view_of}

@@ -18,7 +18,7 @@ loop-end-init g c = record {
   areas = refl;
   at = λ o p f pins. at_here c.args.limits.now o _ c.args.schedule.now p c.args.self.now _ _ _ f;
   follows = λ first start f. f;
-  goes_on = λ b. inl b;
+  goes_on = λ b. b;
   turns = omega arith;
   low = λ low. low;
   few = λ low. low;
@@ -39,7 +39,10 @@ pub returns-in-Some-clause-follows : goal.returns-in-Some-clause-follows
 returns-in-Some-clause-follows g c = c.loop-end.invariant.follows
 
 pub returns-in-Some-clause-between : goal.returns-in-Some-clause-between
-returns-in-Some-clause-between g c = λ s b. c.in-Some.ensures.between (c.loop-end.invariant.goes_on b) s
+returns-in-Some-clause-between g c = λ s b. c.in-Some.ensures.between (c.loop-end.invariant.goes_on (inl b)) s
+
+pub returns-in-Some-clause-reaches : goal.returns-in-Some-clause-reaches
+returns-in-Some-clause-reaches g c = λ s b. c.in-Some.ensures.between (c.loop-end.invariant.goes_on b) s
 
 pub returns-in-Some-clause-steps : goal.returns-in-Some-clause-steps
 returns-in-Some-clause-steps g c = λ s. c.loop-end.invariant.few

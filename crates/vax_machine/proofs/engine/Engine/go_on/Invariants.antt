@@ -1,6 +1,6 @@
 use Rattle.std.proofs.Common.{◌≡◌, ◌≤◌, ◌-◌}
 use Rattle.vax_pager.specs.Meaning.{pages}
-use Rattle.vax_machine.specs.Console.{IsBetween, MayGoOn}
+use Rattle.vax_machine.specs.Console.{MayGoOn}
 use Rattle.vax_machine.specs.Delivery.{Delivers}
 use Rattle.vax_machine.specs.Events.{KeepsRun}
 use Rattle.vax_machine.specs.Machine.{IsSound}
@@ -16,7 +16,7 @@ invariant-loop-end g l = record {
   areas : (pages l.self.pager).areas ≡ (pages l.fn.self.pager).areas;
   at : (o : Origin) → (p : Paged) → Follows o p l.fn.self (g.F.PageFile.contents l.fn.file) (g.K.Sink.contents l.fn.sink) l.fn.held → PinsTouched p.residence p.place → Reached l.limits o (pages l.fn.self.pager).areas l.schedule p l.self (g.F.PageFile.contents l.file) (g.K.Sink.contents l.sink) l.held;
   follows : KeepsRun l.fn.self (g.F.PageFile.contents l.fn.file) l.self (g.F.PageFile.contents l.file);
-  goes_on : IsBetween l.fn.self → MayGoOn l.limits.steps l.self;
+  goes_on : MayGoOn l.limits.steps l.fn.self → MayGoOn l.limits.steps l.self;
   turns : l.fn.self.turns ≤ l.self.turns;
   low : l.fn.self.turns ≤ l.limits.turns → l.self.turns ≤ l.limits.turns;
   few : l.fn.self.steps ≤ l.limits.steps → l.self.steps ≤ l.limits.steps;
