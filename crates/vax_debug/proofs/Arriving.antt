@@ -1,5 +1,5 @@
 -- The machine's runs make the steps of a session that is debugged.
-use Rattle.std.proofs.Common.{◌≡◌, ◌<◌, ◌≤◌, ◌+◌, ◌-◌, ◌^◌, ℕ, min, Bool, true, false, List, [], ◌++◌, append-nil, append_assoc, Option, Result, Ok, Err, refl, sym, ap, subst, ◌∙◌, arith}
+use Rattle.std.proofs.Common.{◌≡◌, ◌<◌, ◌≤◌, ◌+◌, ◌-◌, ◌^◌, ℕ, min, Bool, true, false, List, [], ◌++◌, append-nil, append_assoc, Option, Result, Ok, Err, refl, sym, ap, subst, ◌∙◌, inr, arith}
 use Rattle.vax_space.specs.declared.Area.{Area}
 use Rattle.vax_outside.specs.Blocks.{BlockFile}
 use Rattle.vax_outside.specs.Channels.{Channels, Grew, GrewByPrefix, append, nothing}
@@ -9,7 +9,10 @@ use Rattle.vax_outside.proofs.Growth.{append-nothing, grew_more, prefix_in}
 use Rattle.vax_flat.specs.Parts.{Place, At, GoesBy}
 use Rattle.vax_flat.specs.Step.{Flat}
 use Rattle.vax_sched.specs.declared.rule.Rule.{Rule}
-use Rattle.vax_machine.specs.Console.{IsBetween, StopsBetween}
+use Rattle.vax_machine.specs.Console.{IsBetween, MayGoOn, StopsBetween}
+use Rattle.vax_pager.specs.Listing.{is_listed}
+use Rattle.vax_machine.specs.Machine.{residence}
+use Rattle.vax_machine.specs.Touched.{PinsTouched}
 use Rattle.vax_machine.specs.Run as run_spec
 use Rattle.vax_machine.specs.Run.{begun}
 use Rattle.vax_machine.specs.declared.engine.Engine.{Engine}
@@ -20,7 +23,8 @@ use Rattle.vax_console.specs.Transcript.{Session, advanced, stepped}
 use Rattle.vax_console.specs.Ends.{Advances, IsAt, IsOnTheWay, IsOutOfTurns, IsPartOf, IsWithin, Scene, answer_of, session_on, writes}
 use Rattle.vax_console.proofs.Replying.{changes_once_then}
 use Rattle.vax_console.proofs.Requested.{same_core, same_ending}
-use Rattle.vax_console.proofs.Running.{advances_from}
+use Rattle.vax_console.proofs.Running.{advances_by}
+use Rattle.vax_debug.specs.Attempts.{IsUnderway}
 use Rattle.vax_debug.specs.Sessions.{Arrives, Counts, IsHere, Origin}
 use Rattle.vax_debug.specs.declared.failure.Failure.{Failure}
 use Rattle.vax_debug.specs.declared.failure.Failure.TheVariants as failure
@@ -29,8 +33,17 @@ use Rattle.vax_debug.specs.Travel.{Stops, halts, has_halted, travelled}
 
 -- what is sent behind what was sent and replied
 
-at_behind : (from : Flat) (s t : Session) (replies : List ℕ) (m1 m2 : Engine) (f1 f2 : Option BlockFile) (a b c : Option Channels) → IsAt from s replies m1 f1 a b → IsAt s.machine t [] m2 f2 b c → IsAt from t replies m2 f2 a c
-at_behind from s t replies m1 m2 f1 f2 a b c p q = record {
+-- the session's output and the replies were written
+pub record HasTold (from : Flat) (s : Session) (replies : List ℕ) (old now : Option Channels) : Type 0 where
+  pub sent : List ℕ
+  pub output : s.machine.output ≡ from.output ++ sent
+  pub wrote : Grew old now (writes sent replies)
+
+pub told_at : (from : Flat) (s : Session) (replies : List ℕ) (m : Engine) (f : Option BlockFile) (a b : Option Channels) → IsAt from s replies m f a b → HasTold from s replies a b
+told_at from s replies m f a b p = record { sent = p.sent; output = p.output; wrote = p.wrote }
+
+pub at_behind : (from : Flat) (s t : Session) (replies : List ℕ) (m2 : Engine) (f2 : Option BlockFile) (a b c : Option Channels) → HasTold from s replies a b → IsAt s.machine t [] m2 f2 b c → IsAt from t replies m2 f2 a c
+at_behind from s t replies m2 f2 a b c p q = record {
   steps = q.steps;
   means = q.means;
   sent = p.sent ++ q.sent;
@@ -38,8 +51,8 @@ at_behind from s t replies m1 m2 f1 f2 a b c p q = record {
   wrote = subst (λ (z : List ℕ). Grew a c (writes (p.sent ++ q.sent) z)) (append-nil replies) (grew_more a b c (writes p.sent replies) (writes q.sent []) p.wrote q.wrote);
 }
 
-within_behind : (from : Flat) (s : Session) (most : ℕ) (replies : List ℕ) (m1 m2 : Engine) (f1 f2 : Option BlockFile) (a b c : Option Channels) → IsAt from s replies m1 f1 a b → IsWithin s.machine s most [] m2 f2 b c → IsWithin from s most replies m2 f2 a c
-within_behind from s most replies m1 m2 f1 f2 a b c p q = record {
+within_behind : (from : Flat) (s : Session) (most : ℕ) (replies : List ℕ) (m2 : Engine) (f2 : Option BlockFile) (a b c : Option Channels) → HasTold from s replies a b → IsWithin s.machine s most [] m2 f2 b c → IsWithin from s most replies m2 f2 a c
+within_behind from s most replies m2 f2 a b c p q = record {
   place = q.place;
   goes = q.goes;
   means = q.means;
@@ -48,8 +61,8 @@ within_behind from s most replies m1 m2 f1 f2 a b c p q = record {
   wrote = subst (λ (z : List ℕ). Grew a c (writes (p.sent ++ q.sent) z)) (append-nil replies) (grew_more a b c (writes p.sent replies) (writes q.sent []) p.wrote q.wrote);
 }
 
-part_behind : (from : Flat) (s t : Session) (replies : List ℕ) (m : Engine) (f : Option BlockFile) (a b c : Option Channels) → IsAt from s replies m f a b → IsPartOf s.machine t [] b c → IsPartOf from t replies a c
-part_behind from s t replies m f a b c p q = record {
+pub part_behind : (from : Flat) (s t : Session) (replies : List ℕ) (a b c : Option Channels) → HasTold from s replies a b → IsPartOf s.machine t [] b c → IsPartOf from t replies a c
+part_behind from s t replies a b c p q = record {
   sent = p.sent ++ q.sent;
   output = q.output ∙ (ap (λ (z : List ℕ). z ++ q.sent) p.output ∙ append_assoc from.output p.sent q.sent);
   wrote = subst (λ (z : List ℕ). GrewByPrefix a c (writes (p.sent ++ q.sent) z)) (append-nil replies) (prefix_in a b c (writes p.sent replies) (writes q.sent []) nothing (writes (p.sent ++ q.sent) (replies ++ [])) (ap (append (writes p.sent replies)) (append-nothing (writes q.sent []))) p.wrote q.wrote);
@@ -65,38 +78,52 @@ outcome_of run_end.Turns = Err failure.Turns
 outcome_of run_end.PageFault = Err failure.PageFault
 outcome_of run_end.WriteFault = Err failure.WriteFault
 
-here_behind : (o : Origin) (s : Session) (replies : List ℕ) (v w : Scene) → IsHere o s replies v → IsBetween w.machine → IsAt s.machine (advanced 1 s) [] w.machine w.file v.sink w.sink → IsHere o (stepped s) replies w
-here_behind o s replies v w h between a = record {
+pub here_behind : (o : Origin) (s : Session) (replies : List ℕ) (v w : Scene) → HasTold o.flat s replies o.channels v.sink → IsBetween w.machine → IsAt s.machine (advanced 1 s) [] w.machine w.file v.sink w.sink → IsHere o (stepped s) replies w
+here_behind o s replies v w told between a = record {
   at = subst (λ (t : Session). IsAt o.flat t replies w.machine w.file o.channels w.sink) (only_one s)
-      (at_behind o.flat s (advanced 1 s) replies v.machine w.machine v.file w.file o.channels v.sink w.sink h.at a);
+      (at_behind o.flat s (advanced 1 s) replies w.machine w.file o.channels v.sink w.sink told a);
   between = between;
 }
 
-step_arrives : (end : RunEnd) (limits : Limits) (o : Origin) (s : Session) (replies : List ℕ) (v w : Scene) → IsHere o s replies v → (StopsBetween end → IsBetween w.machine) →
+step_arrives : (end : RunEnd) (limits : Limits) (o : Origin) (s : Session) (replies : List ℕ) (v w : Scene) → HasTold o.flat s replies o.channels v.sink → (StopsBetween end → IsBetween w.machine) →
     Advances (answer_of end) limits 1 s w.machine w.file v.sink w.sink → Arrives (outcome_of end) limits.turns 1 (stepped s) o s replies w
-step_arrives (run_end.Ended e) limits o s replies v w h between a = here_behind o s replies v w h (between tt) a.1
-step_arrives run_end.Steps limits o s replies v w h between a = here_behind o s replies v w h (between tt) a.1
-step_arrives run_end.Turns limits o s replies v w h between a =
-    (a.0, within_behind o.flat s 1 replies v.machine w.machine v.file w.file o.channels v.sink w.sink h.at a.1)
-step_arrives run_end.PageFault limits o s replies v w h between a =
-    within_behind o.flat s 1 replies v.machine w.machine v.file w.file o.channels v.sink w.sink h.at a
-step_arrives run_end.WriteFault limits o s replies v w h between a = record {
+step_arrives (run_end.Ended e) limits o s replies v w told between a = here_behind o s replies v w told (between tt) a.1
+step_arrives run_end.Steps limits o s replies v w told between a = here_behind o s replies v w told (between tt) a.1
+step_arrives run_end.Turns limits o s replies v w told between a =
+    (a.0, within_behind o.flat s 1 replies w.machine w.file o.channels v.sink w.sink told a.1)
+step_arrives run_end.PageFault limits o s replies v w told between a =
+    within_behind o.flat s 1 replies w.machine w.file o.channels v.sink w.sink told a
+step_arrives run_end.WriteFault limits o s replies v w told between a = record {
   made = 1;
   few = omega arith;
-  part = part_behind o.flat s (advanced 1 s) replies v.machine v.file o.channels v.sink w.sink h.at a;
+  part = part_behind o.flat s (advanced 1 s) replies o.channels v.sink w.sink told a;
 }
 
 -- the session that a machine makes
-session_is : (o : Origin) (s : Session) (replies : List ℕ) (v : Scene) → IsHere o s replies v → session_on v.machine s.machine ≡ s
-session_is o s replies v h = ap (λ (n : ℕ). record { machine = s.machine; steps = n }) h.at.steps
+session_is : (s : Session) (m : Engine) → m.steps ≡ s.steps → session_on m s.machine ≡ s
+session_is s m steps = ap (λ (n : ℕ). record { machine = s.machine; steps = n }) steps
+
+-- a run up to the end of the next step, from a place by which that goes
+pub run_arrives_by : (end : RunEnd) (limits : Limits) (most : ℕ) (areas : List Area) (rules : List Rule) (o : Origin) (s : Session) (replies : List ℕ) (place : Place) (v w : Scene) → GoesBy s.machine place → HasTold o.flat s replies o.channels v.sink → v.machine.steps ≡ s.steps →
+    (StopsBetween end → IsBetween w.machine) → most ≡ v.machine.steps + 1 →
+    run_spec.Ends (record { steps = most; turns = limits.turns; listed = false }) areas rules (begun v.machine place) v.file end w.machine w.file v.sink w.sink → Arrives (outcome_of end) limits.turns 1 (stepped s) o s replies w
+run_arrives_by end limits most areas rules o s replies place v w by told steps between is e =
+    let run = subst (λ (n : ℕ). run_spec.Ends (record { steps = n; turns = limits.turns; listed = false }) areas rules (begun v.machine place) v.file end w.machine w.file v.sink w.sink) is e in
+    let a = advances_by end limits 1 areas rules s.machine place v.machine w.machine v.file w.file v.sink w.sink by between run in
+    step_arrives end limits o s replies v w told between (subst (λ (z : Session). Advances (answer_of end) limits 1 z w.machine w.file v.sink w.sink) (session_is s v.machine steps) a)
 
 -- a run of one step more
 pub run_arrives : (end : RunEnd) (limits : Limits) (most : ℕ) (areas : List Area) (rules : List Rule) (o : Origin) (s : Session) (replies : List ℕ) (v w : Scene) → IsHere o s replies v → (StopsBetween end → IsBetween w.machine) → most ≡ v.machine.steps + 1 →
     run_spec.Ends (record { steps = most; turns = limits.turns; listed = false }) areas rules (begun v.machine (At s.machine)) v.file end w.machine w.file v.sink w.sink → Arrives (outcome_of end) limits.turns 1 (stepped s) o s replies w
 run_arrives end limits most areas rules o s replies v w h between is e =
-    let run = subst (λ (n : ℕ). run_spec.Ends (record { steps = n; turns = limits.turns; listed = false }) areas rules (begun v.machine (At s.machine)) v.file end w.machine w.file v.sink w.sink) is e in
-    let a = advances_from end limits 1 v.machine.steps areas rules s.machine v.machine w.machine v.file w.file v.sink w.sink refl between run in
-    step_arrives end limits o s replies v w h between (subst (λ (z : Session). Advances (answer_of end) limits 1 z w.machine w.file v.sink w.sink) (session_is o s replies v h) a)
+    run_arrives_by end limits most areas rules o s replies (At s.machine) v w refl (told_at o.flat s replies v.machine v.file o.channels v.sink h.at) h.at.steps between is e
+
+-- the same of the rest of a step
+pub run_resumes : (end : RunEnd) (limits : Limits) (most : ℕ) (areas : List Area) (rules : List Rule) (o : Origin) (s : Session) (replies : List ℕ) (v w : Scene) (u : IsUnderway o s replies v) → (StopsBetween end → MayGoOn most v.machine → IsBetween w.machine) → most ≡ v.machine.steps + 1 →
+    run_spec.Ends (record { steps = most; turns = limits.turns; listed = false }) areas rules (begun v.machine u.place) v.file end w.machine w.file v.sink w.sink → Arrives (outcome_of end) limits.turns 1 (stepped s) o s replies w
+run_resumes end limits most areas rules o s replies v w u between is e =
+    run_arrives_by end limits most areas rules o s replies u.place v w u.goes (record { sent = u.sent; output = u.output; wrote = u.wrote }) u.steps
+    (λ t. between t (inr (u.going, omega (arith, is)))) is e
 
 -- the limit of turns behind so many steps
 out_behind : (turns count i : ℕ) (s : Session) (m : Engine) → i + 1 ≤ count → IsOutOfTurns turns (advanced i s) 1 m → IsOutOfTurns turns s count m
@@ -174,6 +201,15 @@ comes_to_end count i stops o s replies v all k = subst (λ (t : Session). IsHere
 -- the limit of a run of one step
 pub step_most : (o : Origin) (s : Session) (replies : List ℕ) (v : Scene) (steps most : ℕ) → IsHere o s replies v → s.steps + 1 < 2 ^ 64 → steps ≡ v.machine.steps → most ≡ min (steps + 1) (2 ^ 64 - 1) → most ≡ v.machine.steps + 1
 step_most o s replies v steps most h few told is = let here = h.at.steps in omega (arith, here, few, told, is)
+
+-- no page is pinned, so the attempt that comes touches each one that is
+pub touches_none : (m : Engine) (place : Place) → (residence m).pinned ≡ [] → PinsTouched (residence m) place
+unfolding is_listed
+touches_none m place none = record { touched = λ page h. let no : false ≡ true = sym (ap (is_listed page) none) ∙ h in absurd (cc no) }
+
+-- the same of the rest of a step
+pub rest_most : (s : Session) (m : Engine) (steps most : ℕ) → m.steps ≡ s.steps → s.steps + 1 < 2 ^ 64 → steps ≡ m.steps → most ≡ min (steps + 1) (2 ^ 64 - 1) → most ≡ m.steps + 1
+rest_most s m steps most here few told is = omega (arith, here, few, told, is)
 
 -- calls that failed behind calls of which none did
 pub counts_then : (r : Result (Unit {0}) Failure) (f g h x y z : Failures) → g.count ≡ f.count → y.count ≡ x.count → Counts r g h y z → Counts r f h x z

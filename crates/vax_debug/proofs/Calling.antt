@@ -1,5 +1,5 @@
 -- The calls that make steps.
-use Rattle.std.proofs.Common.{◌≡◌, ◌+◌, ◌-◌, ◌%◌, ◌^◌, ℕ, List, Option, option_map, sym, ap, subst, ◌∙◌, arith}
+use Rattle.std.proofs.Common.{◌≡◌, ◌+◌, ◌-◌, ◌<◌, ◌%◌, ◌^◌, ℕ, min, List, Option, option_map, sym, ap, subst, ◌∙◌, arith}
 use Rattle.vax_word.specs.declared.Core.{Core}
 use Rattle.vax_flat.specs.Parts.{At}
 use Rattle.vax_flat.specs.Step.{Flat}
@@ -15,6 +15,13 @@ use Rattle.vax_debug.proofs.Travelling.{none_advanced}
 -- the steps that are left, as the machine tells them
 pub left_is : (o : Origin) (s : Session) (replies : List ℕ) (v : Scene) (limit n : ℕ) → IsHere o s replies v → n ≡ limit - v.machine.steps → n ≡ left limit s
 left_is o s replies v limit n h told = told ∙ ap (λ (k : ℕ). limit - k) h.at.steps
+
+-- there are numbers for them, and for fewer
+pub has_left : (o : Origin) (s : Session) (replies : List ℕ) (v : Scene) (n : ℕ) → IsHere o s replies v → v.machine.steps + n < 2 ^ 64 → s.steps + n < 2 ^ 64
+has_left o s replies v n h within = subst (λ (k : ℕ). k + n < 2 ^ 64) h.at.steps within
+
+pub has_fewer : (steps left count n : ℕ) → steps + left < 2 ^ 64 → n ≡ min count left → steps + n < 2 ^ 64
+has_fewer steps left count n within is = omega (arith, within, is)
 
 -- where the session is, it is on the way
 pub within_here : (o : Origin) (s : Session) (most : ℕ) (replies : List ℕ) (v : Scene) → IsHere o s replies v → IsWithin o.flat s most replies v.machine v.file o.channels v.sink

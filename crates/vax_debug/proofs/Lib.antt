@@ -3,3 +3,7 @@ pub mod Arriving
 pub mod Staying
 pub mod Calling
 pub mod Cells
+pub mod Reported
+pub mod Leading
+pub mod Attempting
+pub mod Statuses

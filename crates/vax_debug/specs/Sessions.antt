@@ -51,11 +51,16 @@ Counts (Err failure.PageFault) file_before file_now sink_before sink_now =
 Counts (Err failure.WriteFault) file_before file_now sink_before sink_now =
     (file_before.count ≤ file_now.count) × (sink_before.count ≤ sink_now.count) × Rose sink_before sink_now × ChangesOnce file_before file_now
 
--- so they do in each session that the machine makes
+-- so they do in each session that the machine makes, if there are numbers for the steps
 abbrev pub ArrivesFrom : Scene → Scene → Result (Unit {0}) Failure → (turns : ℕ) → (Session → ℕ) → (Session → Session) → Type 0
 ArrivesFrom before after result turns count target =
     (o : Origin) (s : Session) (replies : List ℕ) → IsHere o s replies before → s.steps + count s < 2 ^ 64 →
     Arrives result turns (count s) (target s) o s replies after
+
+-- the same of steps for which there are always numbers, as those up to a limit
+abbrev pub LeadsFrom : Scene → Scene → Result (Unit {0}) Failure → (turns : ℕ) → (Session → ℕ) → (Session → Session) → Type 0
+LeadsFrom before after result turns count target =
+    (o : Origin) (s : Session) (replies : List ℕ) → IsHere o s replies before → Arrives result turns (count s) (target s) o s replies after
 
 -- these are the bytes of the session's memory
 abbrev pub ShowsFrom : Scene → (addr count : ℕ) → List (Option ℕ) → Type 0

@@ -1,10 +1,10 @@
 //! The calls that make steps.
-ghost use Rattle.std.specs.Prelude.{◌≡◌, ◌<◌, ◌^◌, ◌-◌, min};
+ghost use Rattle.std.specs.Prelude.{◌≡◌, ◌+◌, ◌<◌, ◌^◌, ◌-◌, min};
 ghost use Rattle.vax_machine.specs.Meaning.{engine};
-ghost use Rattle.vax_console.specs.Ends.{scene};
+ghost use Rattle.vax_console.specs.Ends.{OnlyReplied, scene};
 ghost use Rattle.vax_console.specs.Transcript.{Session, left};
 ghost use Rattle.vax_debug.specs.Calls.{goal_at, gone_on, gone_to, over_count, stepped_on, stepped_over};
-ghost use Rattle.vax_debug.specs.Sessions.{ArrivesFrom, Counts};
+ghost use Rattle.vax_debug.specs.Sessions.{Counts, LeadsFrom};
 
 use crate::breaks::{Breaks, Goal};
 use crate::failure::Failure;
@@ -16,7 +16,8 @@ use vax_sched::Schedule;
 
 /// How many steps are left up to the limit.
 fn steps_left(machine: &Machine, limits: &Limits) -> u64
-    ensures { result ≡ limits.now.steps - (engine machine.now).steps }
+    ensures left { result ≡ limits.now.steps - (engine machine.now).steps }
+    ensures within { (engine machine.now).steps + result < 2 ^ 64 }
 {
     limits.steps.saturating_sub(machine.steps())
 }
@@ -33,13 +34,14 @@ pub fn step<F: PageFile, K: Sink>(
     sink: &mut K,
 ) -> Result<(), Failure>
     requires few_turns { limits.now.turns < 2 ^ 64 - 2 }
-    ensures goes { ArrivesFrom
+    ensures goes { LeadsFrom
         (scene (engine machine.old) (F.contents file.old) (K.contents sink.old))
         (scene (engine machine.new) (F.contents file.new) (K.contents sink.new))
         result limits.now.turns (λ (s : Session). min count (left limits.now.steps s))
         (stepped_on limits.now.steps count breaks.now) }
     ensures counts { Counts result (F.faults file.old) (F.faults file.new) (K.faults sink.old)
         (K.faults sink.new) }
+    ensures only { OnlyReplied (K.contents sink.old) (K.contents sink.new) }
 {
     let count = count.min(steps_left(machine, limits));
     let course = Course { count, goal: None };
@@ -56,12 +58,13 @@ pub fn go<F: PageFile, K: Sink>(
     sink: &mut K,
 ) -> Result<(), Failure>
     requires few_turns { limits.now.turns < 2 ^ 64 - 2 }
-    ensures goes { ArrivesFrom
+    ensures goes { LeadsFrom
         (scene (engine machine.old) (F.contents file.old) (K.contents sink.old))
         (scene (engine machine.new) (F.contents file.new) (K.contents sink.new))
         result limits.now.turns (left limits.now.steps) (gone_on limits.now.steps breaks.now) }
     ensures counts { Counts result (F.faults file.old) (F.faults file.new) (K.faults sink.old)
         (K.faults sink.new) }
+    ensures only { OnlyReplied (K.contents sink.old) (K.contents sink.new) }
 {
     let count = steps_left(machine, limits);
     let course = Course { count, goal: None };
@@ -79,12 +82,13 @@ pub fn go_to<F: PageFile, K: Sink>(
     sink: &mut K,
 ) -> Result<(), Failure>
     requires few_turns { limits.now.turns < 2 ^ 64 - 2 }
-    ensures goes { ArrivesFrom
+    ensures goes { LeadsFrom
         (scene (engine machine.old) (F.contents file.old) (K.contents sink.old))
         (scene (engine machine.new) (F.contents file.new) (K.contents sink.new))
         result limits.now.turns (left limits.now.steps) (gone_to limits.now.steps goal breaks.now) }
     ensures counts { Counts result (F.faults file.old) (F.faults file.new) (K.faults sink.old)
         (K.faults sink.new) }
+    ensures only { OnlyReplied (K.contents sink.old) (K.contents sink.new) }
 {
     let count = steps_left(machine, limits);
     let goal = Some(goal);
@@ -103,13 +107,14 @@ pub fn until<F: PageFile, K: Sink>(
     sink: &mut K,
 ) -> Result<(), Failure>
     requires few_turns { limits.now.turns < 2 ^ 64 - 2 }
-    ensures goes { ArrivesFrom
+    ensures goes { LeadsFrom
         (scene (engine machine.old) (F.contents file.old) (K.contents sink.old))
         (scene (engine machine.new) (F.contents file.new) (K.contents sink.new))
         result limits.now.turns (left limits.now.steps)
         (gone_to limits.now.steps (goal_at address 0) breaks.now) }
     ensures counts { Counts result (F.faults file.old) (F.faults file.new) (K.faults sink.old)
         (K.faults sink.new) }
+    ensures only { OnlyReplied (K.contents sink.old) (K.contents sink.new) }
 {
     let goal = Goal { address, least: 0 };
     go_to(goal, breaks, machine, limits, schedule, file, sink)
@@ -126,13 +131,14 @@ pub fn over<F: PageFile, K: Sink>(
     sink: &mut K,
 ) -> Result<(), Failure>
     requires few_turns { limits.now.turns < 2 ^ 64 - 2 }
-    ensures goes { ArrivesFrom
+    ensures goes { LeadsFrom
         (scene (engine machine.old) (F.contents file.old) (K.contents sink.old))
         (scene (engine machine.new) (F.contents file.new) (K.contents sink.new))
         result limits.now.turns (over_count limits.now.steps)
         (stepped_over limits.now.steps breaks.now) }
     ensures counts { Counts result (F.faults file.old) (F.faults file.new) (K.faults sink.old)
         (K.faults sink.new) }
+    ensures only { OnlyReplied (K.contents sink.old) (K.contents sink.new) }
 {
     match call_goal(machine, file) {
         Ok(None) => step(1, breaks, machine, limits, schedule, file, sink),

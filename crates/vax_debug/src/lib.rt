@@ -4,17 +4,23 @@
 //! Nothing here takes memory.
 #![tactic(auto)]
 
+mod attempts;
 mod breaks;
 mod calls;
 mod failure;
 mod frames;
 mod laws;
 mod memory;
+mod status;
 mod travel;
+mod values;
 
+pub use crate::attempts::attempt;
 pub use crate::breaks::{Breaks, Goal};
 pub use crate::calls::{go, go_to, over, step, until};
 pub use crate::failure::Failure;
 pub use crate::frames::{frame_goal, longword};
 pub use crate::laws::travels_are_steps;
 pub use crate::memory::{deposit, deposit_register, evict, examine};
+pub use crate::status::deposit_status;
+pub use crate::values::evaluate;

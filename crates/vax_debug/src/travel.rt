@@ -1,8 +1,9 @@
 //! Steps up to a stop.
 ghost use Rattle.std.specs.Prelude.{◌≡◌, ◌<◌, ◌^◌, ◌-◌, ◌||◌};
 ghost use Rattle.vax_machine.specs.Meaning.{engine};
-ghost use Rattle.vax_console.specs.Ends.{scene};
+ghost use Rattle.vax_console.specs.Ends.{OnlyReplied, scene};
 ghost use Rattle.vax_console.specs.Transcript.{Session, stepped};
+ghost use Rattle.vax_debug.specs.Attempts.{ResumesFrom};
 ghost use Rattle.vax_debug.specs.Travel.{halts, stops_at, travelled};
 ghost use Rattle.vax_debug.specs.Sessions.{ArrivesFrom, Counts};
 
@@ -12,8 +13,8 @@ use vax_machine::{Limits, Machine, RunEnd};
 use vax_outside::{PageFile, Sink};
 use vax_sched::Schedule;
 
-/// Makes one step, unless the machine has ended.
-fn make_step<F: PageFile, K: Sink>(
+/// Makes one step, unless the machine has ended. Where parts of it were made it makes the rest.
+pub(crate) fn make_step<F: PageFile, K: Sink>(
     machine: &mut Machine,
     limits: &Limits,
     schedule: &Schedule,
@@ -25,8 +26,13 @@ fn make_step<F: PageFile, K: Sink>(
         (scene (engine machine.old) (F.contents file.old) (K.contents sink.old))
         (scene (engine machine.new) (F.contents file.new) (K.contents sink.new))
         result limits.now.turns (λ (s : Session). 1) (λ (s : Session). stepped s) }
+    ensures resumes { ResumesFrom
+        (scene (engine machine.old) (F.contents file.old) (K.contents sink.old))
+        (scene (engine machine.new) (F.contents file.new) (K.contents sink.new))
+        result limits.now.turns }
     ensures counts { Counts result (F.faults file.old) (F.faults file.new) (K.faults sink.old)
         (K.faults sink.new) }
+    ensures only { OnlyReplied (K.contents sink.old) (K.contents sink.new) }
 {
     let limits = Limits {
         steps: machine.steps().saturating_add(1),
@@ -75,6 +81,7 @@ pub(crate) fn travel<F: PageFile, K: Sink>(
         (λ (s : Session). travelled course.count (stops_at breaks.now course.goal) s) }
     ensures counts { Counts result (F.faults file.old) (F.faults file.new) (K.faults sink.old)
         (K.faults sink.new) }
+    ensures only { OnlyReplied (K.contents sink.old) (K.contents sink.new) }
 {
     for _ in 0..course.count {
         match make_step(machine, limits, schedule, file, sink) {

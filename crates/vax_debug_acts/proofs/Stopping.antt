@@ -1,12 +1,11 @@
 -- Where steps stopped, and what was put into memory.
-use Rattle.std.proofs.Common.{◌≡◌, ◌==◌, ◌<◌, ◌+◌, ◌^◌, nat_le, ℕ, List, Option, None, Some, Result, sym, ap, subst, ◌∙◌, arith}
+use Rattle.std.proofs.Common.{◌≡◌, ◌==◌, nat_le, ℕ, List, Option, None, Some, Result, sym, ap, subst, ◌∙◌}
 use Rattle.std.specs.List.{list_any}
 use Rattle.vax_report.specs.declared.Last.{Last}
 use Rattle.vax_machine.specs.Console.{memory_from}
-use Rattle.vax_console.specs.Transcript.{Session, left}
+use Rattle.vax_console.specs.Transcript.{Session}
 use Rattle.vax_console.specs.Ends.{Scene}
 use Rattle.vax_console.proofs.Requested.{same_core, same_ending}
-use Rattle.vax_debug.specs.Calls.{call_goal, over_count, over_count_to}
 use Rattle.vax_debug.specs.Sessions.{IsHere, Origin}
 use Rattle.vax_debug.specs.Travel.{pc_of}
 use Rattle.vax_debug.specs.declared.breaks.Goal.{Goal}
@@ -37,12 +36,3 @@ with_frame r turns limit symbols breaks goal found o s replies v is h = subst (�
 pub without_frame : (r : Result (Unit {0}) Failure) (turns limit : ℕ) (symbols : List Symbol) (breaks : List ℕ) (found : Option Goal) (o : Origin) (s : Session) (replies : List ℕ) (v : Scene) → None ≡ found → Tells r o s replies no_frame_line v → Acts r turns (out_to limit symbols breaks s found) o s replies v
 without_frame r turns limit symbols breaks found o s replies v is h =
     subst (λ (z : Option Goal). Acts r turns (out_to limit symbols breaks s z) o s replies v) is (done r turns 0 o s s replies no_frame_line v h)
-
--- the steps of a call are among those up to the limit
-
-over_room_to : (limit : ℕ) (goal : Option Goal) (s : Session) → s.steps + left limit s < 2 ^ 64 → s.steps + over_count_to limit goal s < 2 ^ 64
-over_room_to limit None s few = omega arith
-over_room_to limit (Some goal) s few = few
-
-pub over_room : (limit : ℕ) (s : Session) → s.steps + left limit s < 2 ^ 64 → s.steps + over_count limit s < 2 ^ 64
-over_room limit s few = over_room_to limit (call_goal s.machine) s few

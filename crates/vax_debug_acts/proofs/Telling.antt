@@ -1,5 +1,5 @@
 -- Replies that were written, and what a request comes to by them.
-use Rattle.std.proofs.Common.{◌≡◌, ℕ, List, [], ◌∷◌, ◌++◌, append-nil, Option, None, Some, Result, Ok, Err, OnOk, refl, sym, ap, subst, ◌∙◌, inl, inr, arith}
+use Rattle.std.proofs.Common.{◌≡◌, ℕ, List, [], ◌++◌, append-nil, Option, None, Some, Result, Ok, Err, OnOk, refl, sym, ap, subst, ◌∙◌, inl, inr, arith}
 use Rattle.vax_outside.specs.Blocks.{BlockFile}
 use Rattle.vax_outside.specs.Channels.{Channels, Grew, GrewByPrefix, only}
 use Rattle.vax_outside.specs.declared.faults.Failures.{Failures}
@@ -9,10 +9,11 @@ use Rattle.vax_outside.proofs.Growth.{grew_more}
 use Rattle.vax_machine.specs.declared.engine.Engine.{Engine}
 use Rattle.vax_flat.specs.Parts.{At}
 use Rattle.vax_console.specs.Transcript.{Session, advanced}
-use Rattle.vax_console.specs.Ends.{ChangesOnce, IsAt, IsWithin, Scene, scene, writes}
+use Rattle.vax_console.specs.Ends.{ChangesOnce, IsAt, IsWithin, OnlyReplied, Scene, scene, writes}
 use Rattle.vax_debug.specs.Sessions.{Arrives, Counts, IsHere, Origin}
 use Rattle.vax_debug.specs.declared.failure.Failure.{Failure}
 use Rattle.vax_debug.specs.declared.failure.Failure.TheVariants as failure
+use Rattle.vax_debug.proofs.Reported.{prefix_only, prefix_report, report_only}
 use Rattle.vax_debug_acts.specs.Acting.{Act, Acts, IsToldInPart, Replies, Tells, act}
 use Rattle.vax_debug_acts.specs.Acts.{by_address, by_value, no_value_line}
 
@@ -31,25 +32,13 @@ at_told o s replies text m f a b h g = record {
   wrote = grew_told o.channels a b h.sent replies text h.wrote g;
 }
 
--- a prefix of a reply is one on its channel alone
-
-none_left : (xs ys : List ℕ) → xs ++ ys ≡ [] → xs ≡ []
-none_left [] ys e = refl
-none_left (x ∷ xs) ys e = absurd (cc e)
-
-only_report : (c : Channels) → c.out ≡ [] → c.recorded ≡ [] → c ≡ only Report c.report
-only_report c out recorded i = record { out = out i; report = c.report; recorded = recorded i }
-
 pub in_part : (o : Origin) (s : Session) (replies text : List ℕ) (m : Engine) (f : Option BlockFile) (a b : Option Channels) → IsAt o.flat s replies m f o.channels a → GrewByPrefix a b (only Report text) → IsToldInPart o s replies text (scene m f b)
-in_part o s replies text m f a b h p =
-    let out : p.prefix.out ≡ [] = none_left p.prefix.out p.rest.out (ap (λ (z : Channels). z.out) p.splits) in
-    let recorded : p.prefix.recorded ≡ [] = none_left p.prefix.recorded p.rest.recorded (ap (λ (z : Channels). z.recorded) p.splits) in
-    record {
-      told = p.prefix.report;
-      untold = p.rest.report;
-      splits = ap (λ (z : Channels). z.report) p.splits;
-      at = at_told o s replies p.prefix.report m f a b h (subst (λ (z : Channels). Grew a b z) (only_report p.prefix out recorded) p.grew);
-    }
+in_part o s replies text m f a b h p = record {
+  told = p.prefix.report;
+  untold = p.rest.report;
+  splits = ap (λ (z : Channels). z.report) p.splits;
+  at = at_told o s replies p.prefix.report m f a b h (prefix_report a b text p);
+}
 
 -- nothing of a reply was written
 pub not_told : (o : Origin) (s : Session) (replies text : List ℕ) (v : Scene) → IsHere o s replies v → IsToldInPart o s replies text v
@@ -74,6 +63,12 @@ reply_counts (Ok x) file before now a b text p = (refl, p.0)
 reply_counts (Err failure.Turns) file before now a b text p = absurd p
 reply_counts (Err failure.PageFault) file before now a b text p = absurd p
 reply_counts (Err failure.WriteFault) file before now a b text p = (omega arith, p.0, p.1, λ n. absurd (n refl))
+
+pub reply_only : (r : Result (Unit {0}) Failure) (before now : Failures) (a b : Option Channels) (text : List ℕ) → Replies r before now a b text → OnlyReplied a b
+reply_only (Ok x) before now a b text p = report_only a b text p.1
+reply_only (Err failure.Turns) before now a b text p = absurd p
+reply_only (Err failure.PageFault) before now a b text p = absurd p
+reply_only (Err failure.WriteFault) before now a b text p = prefix_only a b text p.2
 
 -- what a request comes to
 

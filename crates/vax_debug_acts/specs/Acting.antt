@@ -1,11 +1,11 @@
 -- What a debugger is asked for, and what the machine makes of it.
-use Rattle.std.specs.Prelude.{ℕ, ◌≡◌, ◌+◌, ◌<◌, ◌≤◌, ◌^◌, ◌⊎◌, List, ◌++◌, Option, Result, Ok, Err, OnOk}
+use Rattle.std.specs.Prelude.{ℕ, ◌≡◌, ◌+◌, ◌≤◌, ◌⊎◌, List, ◌++◌, Option, Result, Ok, Err, OnOk}
 use Rattle.vax_outside.specs.Channels.{Channels, Grew, GrewByPrefix, only}
 use Rattle.vax_outside.specs.Faults.{Rose}
 use Rattle.vax_outside.specs.declared.faults.Failures.{Failures}
 use Rattle.vax_outside.specs.declared.traits.Chan.TheVariants.{Report}
 use Rattle.vax_machine.specs.declared.event.Limits.{Limits}
-use Rattle.vax_console.specs.Transcript.{Session, left}
+use Rattle.vax_console.specs.Transcript.{Session}
 use Rattle.vax_console.specs.Ends.{IsAt, IsOutOfTurns, IsWithin, Scene}
 use Rattle.vax_debug.specs.Sessions.{IsHere, IsLost, Origin}
 use Rattle.vax_debug.specs.declared.failure.Failure.{Failure}
@@ -49,15 +49,10 @@ Acts (Err failure.PageFault) turns a o s replies v =
     IsWithin o.flat s a.most replies v.machine v.file o.channels v.sink ⊎ IsToldInPart o a.session replies a.reply v
 Acts (Err failure.WriteFault) turns a o s replies v = IsLost a.most o s replies v ⊎ IsToldInPart o a.session replies a.reply v
 
--- there are numbers for all steps up to the limit
-abbrev pub HasNumbers : (limit : ℕ) → Session → Type 0
-HasNumbers limit s = s.steps + left limit s < 2 ^ 64
-
 -- so it was in each session that the machine makes
 abbrev pub ActsFrom : Scene → Scene → Result (Unit {0}) Failure → Limits → (Session → Act) → Type 0
 ActsFrom before after result limits asked =
-    (o : Origin) (s : Session) (replies : List ℕ) → IsHere o s replies before → HasNumbers limits.steps s →
-    Acts result limits.turns (asked s) o s replies after
+    (o : Origin) (s : Session) (replies : List ℕ) → IsHere o s replies before → Acts result limits.turns (asked s) o s replies after
 
 -- and the addresses at which steps stop are these
 abbrev pub BreaksFrom : Scene → Result (Unit {0}) Failure → List ℕ → (Session → List ℕ) → Type 0

@@ -18,7 +18,7 @@ use Rattle.vax_debug_words.specs.declared.request.Size.TheVariants as size
 use Rattle.vax_debug_words.specs.declared.request.Value.{Value}
 use Rattle.vax_debug_words.specs.declared.request.Value.TheVariants as value
 use Rattle.vax_debug_names.specs.declared.Symbol.{Symbol}
-use Rattle.vax_debug_values.specs.Values.{evaluated}
+use Rattle.vax_debug.specs.Values.{evaluated}
 use Rattle.vax_debug_replies.specs.Stops.{break_line, stop}
 use Rattle.vax_debug_acts.specs.Acting.{Act, act}
 
@@ -54,11 +54,11 @@ by_value (Some n) s asked = asked n
 
 -- steps
 
--- why the machine stands still, but that the steps were made: it has ended, PC is one of the addresses, or the limit of steps is reached
+-- why the machine stands still, but that the steps were made: it has ended, the limit of steps is reached, or PC is one of the addresses
 abbrev pub why_stopped : Option Ending → (at_break at_limit : Bool) → Option Last
 why_stopped (Some e) at_break at_limit = Some (last.Ending e)
 why_stopped None at_break at_limit =
-    if at_break then Some last.Break else if at_limit then Some last.Steps else None
+    if at_limit then Some last.Steps else if at_break then Some last.Break else None
 
 abbrev pub why : (limit : ℕ) → List ℕ → Session → Option Last
 why limit breaks s = why_stopped s.machine.ending (list_any (λ a. a == pc_of s.machine.core) breaks) (nat_le limit s.steps)

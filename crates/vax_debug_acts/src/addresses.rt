@@ -1,7 +1,7 @@
 //! The requests of where steps stop.
 ghost use Rattle.std.specs.Prelude.{◌≡◌, []};
 ghost use Rattle.vax_machine.specs.Meaning.{engine};
-ghost use Rattle.vax_console.specs.Ends.{scene};
+ghost use Rattle.vax_console.specs.Ends.{OnlyReplied, scene};
 ghost use Rattle.vax_debug.specs.Sessions.{Counts};
 ghost use Rattle.vax_debug.specs.Travel.{without};
 ghost use Rattle.vax_debug_words.specs.Expressions.{IsExpression};
@@ -11,10 +11,9 @@ ghost use Rattle.vax_debug_acts.specs.Acts.{added_line, break_act, breaks_with, 
 
 use crate::reply::{reply_with, tell_done, tell_full, tell_no_value};
 use crate::stops::Setting;
-use vax_debug::{Breaks, Failure};
+use vax_debug::{Breaks, Failure, evaluate};
 use vax_debug_names::Symbol;
 use vax_debug_replies::push_break_line;
-use vax_debug_values::evaluate;
 use vax_debug_words::Expression;
 use vax_machine::Machine;
 use vax_outside::{PageFile, Sink, Text};
@@ -80,6 +79,7 @@ pub fn stop_at<F: PageFile, K: Sink>(
         (breaks_with setting.now.symbols.now breaks.old at.now) }
     ensures counts { Counts result (F.faults file.old) (F.faults file.new) (K.faults sink.old)
         (K.faults sink.new) }
+    ensures only { OnlyReplied (K.contents sink.old) (K.contents sink.new) }
 {
     match evaluate(setting.symbols, at, machine, file) {
         Ok(Some(address)) => add(setting.symbols, address, breaks, sink),
@@ -108,6 +108,7 @@ pub fn clear_at<F: PageFile, K: Sink>(
         (breaks_without setting.now.symbols.now breaks.old at.now) }
     ensures counts { Counts result (F.faults file.old) (F.faults file.new) (K.faults sink.old)
         (K.faults sink.new) }
+    ensures only { OnlyReplied (K.contents sink.old) (K.contents sink.new) }
 {
     match evaluate(setting.symbols, at, machine, file) {
         Ok(Some(address)) => remove(address, breaks, sink),

@@ -2,7 +2,7 @@
 ghost use Rattle.std.specs.Prelude.{◌≡◌, ◌<◌, ◌≤◌, length, take};
 ghost use Rattle.vax_machine.specs.Meaning.{engine};
 ghost use Rattle.vax_machine.specs.declared.event.Limits.{Limits};
-ghost use Rattle.vax_console.specs.Ends.{scene};
+ghost use Rattle.vax_console.specs.Ends.{OnlyReplied, scene};
 ghost use Rattle.vax_debug.specs.Sessions.{Counts};
 ghost use Rattle.vax_debug_words.specs.Expressions.{IsExpression};
 ghost use Rattle.vax_debug_words.specs.Requests.{IsValue};
@@ -12,8 +12,7 @@ ghost use Rattle.vax_debug_acts.specs.Acts.{memory_act, number_bytes, put_act, p
 
 use crate::reply::{reply_with, tell_no_value};
 use crate::stops::Setting;
-use vax_debug::{Failure, deposit, deposit_register};
-use vax_debug_values::evaluate;
+use vax_debug::{Failure, deposit, deposit_register, evaluate};
 use vax_debug_words::{Expression, Size, Value};
 use vax_machine::Machine;
 use vax_outside::{PageFile, Sink};
@@ -42,6 +41,7 @@ fn put<F: PageFile, K: Sink>(
         (put_act address bytes.now) }
     ensures counts { Counts result (F.faults file.old) (F.faults file.new) (K.faults sink.old)
         (K.faults sink.new) }
+    ensures only { OnlyReplied (K.contents sink.old) (K.contents sink.new) }
 {
     match deposit(address, bytes, machine, file) {
         Ok(put) => reply_with(put_line(put), sink),
@@ -87,6 +87,7 @@ fn put_number<F: PageFile, K: Sink>(
         (put_act address (number_bytes size number)) }
     ensures counts { Counts result (F.faults file.old) (F.faults file.new) (K.faults sink.old)
         (K.faults sink.new) }
+    ensures only { OnlyReplied (K.contents sink.old) (K.contents sink.new) }
 {
     let bytes = number.to_le_bytes();
     put(address, first(&bytes, width(size)), machine, file, sink)
@@ -110,6 +111,7 @@ fn put_result<F: PageFile, K: Sink>(
         (put_value_act setting.now.symbols.now address (Number size number.now)) }
     ensures counts { Counts result (F.faults file.old) (F.faults file.new) (K.faults sink.old)
         (K.faults sink.new) }
+    ensures only { OnlyReplied (K.contents sink.old) (K.contents sink.new) }
 {
     match evaluate(setting.symbols, number, machine, file) {
         Ok(Some(number)) => put_number(address, size, number, machine, file, sink),
@@ -135,6 +137,7 @@ fn put_value<F: PageFile, K: Sink>(
         (put_value_act setting.now.symbols.now address given.now) }
     ensures counts { Counts result (F.faults file.old) (F.faults file.new) (K.faults sink.old)
         (K.faults sink.new) }
+    ensures only { OnlyReplied (K.contents sink.old) (K.contents sink.new) }
 {
     match given {
         Value::Number(size, number) => {
@@ -163,6 +166,7 @@ pub fn deposit_into_memory<F: PageFile, K: Sink>(
         (memory_act setting.now.symbols.now to.now given.now) }
     ensures counts { Counts result (F.faults file.old) (F.faults file.new) (K.faults sink.old)
         (K.faults sink.new) }
+    ensures only { OnlyReplied (K.contents sink.old) (K.contents sink.new) }
 {
     match evaluate(setting.symbols, to, machine, file) {
         Ok(Some(address)) => put_value(address, given, setting, machine, file, sink),
@@ -186,6 +190,7 @@ fn put_into_register<F: PageFile, K: Sink>(
         limits (register_put register value) }
     ensures counts { Counts result (F.faults file.now) (F.faults file.now) (K.faults sink.old)
         (K.faults sink.new) }
+    ensures only { OnlyReplied (K.contents sink.old) (K.contents sink.new) }
 {
     let put = deposit_register(register, value, machine, file);
     reply_with(put_line(put), sink)
@@ -209,6 +214,7 @@ pub fn deposit_into_register<F: PageFile, K: Sink>(
         (register_act setting.now.symbols.now register given.now) }
     ensures counts { Counts result (F.faults file.old) (F.faults file.new) (K.faults sink.old)
         (K.faults sink.new) }
+    ensures only { OnlyReplied (K.contents sink.old) (K.contents sink.new) }
 {
     match evaluate(setting.symbols, given, machine, file) {
         Ok(Some(value)) => put_into_register(register, value, machine, file, sink),

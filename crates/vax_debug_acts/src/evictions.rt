@@ -3,7 +3,7 @@ ghost use Rattle.std.specs.Prelude.{Option, is_err};
 ghost use Rattle.vax_outside.specs.Channels.{Channels};
 ghost use Rattle.vax_outside.specs.Faults.{CountsFailure};
 ghost use Rattle.vax_machine.specs.Meaning.{engine};
-ghost use Rattle.vax_console.specs.Ends.{scene};
+ghost use Rattle.vax_console.specs.Ends.{OnlyReplied, scene};
 ghost use Rattle.vax_console.specs.Transcript.{Session};
 ghost use Rattle.vax_debug.specs.Sessions.{Counts, StaysHere};
 ghost use Rattle.vax_debug_words.specs.Expressions.{IsExpression};
@@ -12,8 +12,7 @@ ghost use Rattle.vax_debug_acts.specs.Acts.{done_line, evict_act};
 
 use crate::reply::{tell_done, tell_no_value};
 use crate::stops::Setting;
-use vax_debug::{Failure, evict};
-use vax_debug_values::evaluate;
+use vax_debug::{Failure, evaluate, evict};
 use vax_debug_words::Expression;
 use vax_machine::Machine;
 use vax_outside::{PageFile, Sink};
@@ -35,6 +34,7 @@ fn evict_page<F: PageFile, K: Sink>(
         (λ (s : Session). done_line) }
     ensures counts { Counts result (F.faults file.old) (F.faults file.new) (K.faults sink.old)
         (K.faults sink.new) }
+    ensures only { OnlyReplied (K.contents sink.old) (K.contents sink.new) }
 {
     match evict(page, machine, file) {
         Ok(()) => tell_done(sink),
@@ -58,6 +58,7 @@ pub fn evict_at<F: PageFile, K: Sink>(
         (evict_act setting.now.symbols.now at.now) }
     ensures counts { Counts result (F.faults file.old) (F.faults file.new) (K.faults sink.old)
         (K.faults sink.new) }
+    ensures only { OnlyReplied (K.contents sink.old) (K.contents sink.new) }
 {
     match evaluate(setting.symbols, at, machine, file) {
         Ok(Some(address)) => evict_page(address / PAGE_BYTES, machine, file, sink),
@@ -136,6 +137,7 @@ pub fn evict_all<F: PageFile, K: Sink>(
         (λ (s : Session). done_line) }
     ensures counts { Counts result (F.faults file.old) (F.faults file.new) (K.faults sink.old)
         (K.faults sink.new) }
+    ensures only { OnlyReplied (K.contents sink.old) (K.contents sink.new) }
 {
     let count = machine.space().areas().len();
     match evict_areas(count, machine, file) {

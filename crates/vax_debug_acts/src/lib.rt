@@ -5,14 +5,19 @@
 #![tactic(auto)]
 
 mod addresses;
+mod attempts;
 mod deposits;
 mod evictions;
 mod moves;
 mod reply;
+mod status;
 mod stops;
 
 pub use crate::addresses::{clear_all, clear_at, stop_at};
+pub use crate::attempts::turn;
 pub use crate::deposits::{deposit_into_memory, deposit_into_register};
 pub use crate::evictions::{evict_all, evict_at};
 pub use crate::moves::{go, leave, over, step, until};
+pub use crate::status::deposit_into_status;
 pub use crate::stops::Setting;
+pub use vax_debug::{Breaks, Failure};

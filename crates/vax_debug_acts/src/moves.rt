@@ -1,7 +1,7 @@
 //! The requests that make steps.
 ghost use Rattle.std.specs.Prelude.{◌<◌, ◌^◌, ◌-◌};
 ghost use Rattle.vax_machine.specs.Meaning.{engine};
-ghost use Rattle.vax_console.specs.Ends.{scene};
+ghost use Rattle.vax_console.specs.Ends.{OnlyReplied, scene};
 ghost use Rattle.vax_debug.specs.Sessions.{Counts};
 ghost use Rattle.vax_debug_words.specs.Expressions.{IsExpression};
 ghost use Rattle.vax_debug_acts.specs.Acting.{ActsFrom};
@@ -9,8 +9,7 @@ ghost use Rattle.vax_debug_acts.specs.Acts.{go_act, out_act, over_act, step_act,
 
 use crate::reply::{tell_no_frame, tell_no_value};
 use crate::stops::{Setting, tell_stop};
-use vax_debug::{Breaks, Failure, Goal, frame_goal};
-use vax_debug_values::evaluate;
+use vax_debug::{Breaks, Failure, Goal, evaluate, frame_goal};
 use vax_debug_words::Expression;
 use vax_machine::Machine;
 use vax_outside::{PageFile, Sink};
@@ -32,6 +31,7 @@ pub fn step<F: PageFile, K: Sink>(
         (step_act setting.now.limits.now.steps setting.now.symbols.now breaks.now count) }
     ensures counts { Counts result (F.faults file.old) (F.faults file.new) (K.faults sink.old)
         (K.faults sink.new) }
+    ensures only { OnlyReplied (K.contents sink.old) (K.contents sink.new) }
 {
     match vax_debug::step(
         count,
@@ -63,6 +63,7 @@ pub fn go<F: PageFile, K: Sink>(
         (go_act setting.now.limits.now.steps setting.now.symbols.now breaks.now) }
     ensures counts { Counts result (F.faults file.old) (F.faults file.new) (K.faults sink.old)
         (K.faults sink.new) }
+    ensures only { OnlyReplied (K.contents sink.old) (K.contents sink.new) }
 {
     match vax_debug::go(
         breaks,
@@ -93,6 +94,7 @@ pub fn over<F: PageFile, K: Sink>(
         (over_act setting.now.limits.now.steps setting.now.symbols.now breaks.now) }
     ensures counts { Counts result (F.faults file.old) (F.faults file.new) (K.faults sink.old)
         (K.faults sink.new) }
+    ensures only { OnlyReplied (K.contents sink.old) (K.contents sink.new) }
 {
     match vax_debug::over(
         breaks,
@@ -124,6 +126,7 @@ fn go_to<F: PageFile, K: Sink>(
         (to_goal setting.now.limits.now.steps setting.now.symbols.now breaks.now goal) }
     ensures counts { Counts result (F.faults file.old) (F.faults file.new) (K.faults sink.old)
         (K.faults sink.new) }
+    ensures only { OnlyReplied (K.contents sink.old) (K.contents sink.new) }
 {
     match vax_debug::go_to(
         goal,
@@ -157,6 +160,7 @@ pub fn until<F: PageFile, K: Sink>(
         (until_act setting.now.limits.now.steps setting.now.symbols.now breaks.now to.now) }
     ensures counts { Counts result (F.faults file.old) (F.faults file.new) (K.faults sink.old)
         (K.faults sink.new) }
+    ensures only { OnlyReplied (K.contents sink.old) (K.contents sink.new) }
 {
     match evaluate(setting.symbols, to, machine, file) {
         Ok(Some(address)) => {
@@ -184,6 +188,7 @@ pub fn leave<F: PageFile, K: Sink>(
         (out_act setting.now.limits.now.steps setting.now.symbols.now breaks.now) }
     ensures counts { Counts result (F.faults file.old) (F.faults file.new) (K.faults sink.old)
         (K.faults sink.new) }
+    ensures only { OnlyReplied (K.contents sink.old) (K.contents sink.new) }
 {
     match frame_goal(machine, file) {
         Ok(Some(goal)) => go_to(goal, setting, breaks, machine, file, sink),

@@ -2,7 +2,7 @@
 ghost use Rattle.std.specs.Prelude.{◌≡◌, ◌==◌, ◌≤◌, length, nat_le};
 ghost use Rattle.std.specs.List.{list_any};
 ghost use Rattle.vax_machine.specs.Meaning.{engine};
-ghost use Rattle.vax_console.specs.Ends.{scene};
+ghost use Rattle.vax_console.specs.Ends.{OnlyReplied, scene};
 ghost use Rattle.vax_debug.specs.Sessions.{Counts};
 ghost use Rattle.vax_debug.specs.Travel.{pc_of};
 ghost use Rattle.vax_debug_replies.specs.Stops.{stop};
@@ -39,8 +39,8 @@ fn why_stopped(ended: Option<Ending>, at_break: bool, at_limit: bool) -> Option<
 {
     match ended {
         Some(ending) => Some(Last::Ending(ending)),
-        None if at_break => Some(Last::Break),
         None if at_limit => Some(Last::Steps),
+        None if at_break => Some(Last::Break),
         None => None,
     }
 }
@@ -94,6 +94,7 @@ pub(crate) fn tell_stop<F: PageFile, K: Sink>(
         (stop_reply setting.now.limits.now.steps setting.now.symbols.now breaks.now) }
     ensures counts { Counts result (F.faults file.old) (F.faults file.new) (K.faults sink.old)
         (K.faults sink.new) }
+    ensures only { OnlyReplied (K.contents sink.old) (K.contents sink.new) }
 {
     let last = why(breaks, setting.limits, machine);
     let address = pc_of(machine);

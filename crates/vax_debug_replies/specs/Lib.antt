@@ -5,3 +5,4 @@ pub mod Status
 pub mod Stops
 pub mod Frames
 pub mod Help
+pub mod Pages

@@ -7,6 +7,7 @@
 mod frames;
 mod help;
 mod instructions;
+mod pages;
 mod places;
 mod status;
 mod stops;
@@ -15,6 +16,7 @@ mod values;
 pub use crate::frames::{Frame, push_frame};
 pub use crate::help::{write_breaks, write_help, write_refusal};
 pub use crate::instructions::{push_instruction_line, span_of};
+pub use crate::pages::{PageState, push_frames_line, push_missed_line, push_page_line};
 pub use crate::places::push_place;
 pub use crate::status::push_status_line;
 pub use crate::stops::{push_break_line, push_stop};

@@ -2,3 +2,4 @@ pub mod Telling
 pub mod Lines
 pub mod Wholes
 pub mod Forms
+pub mod Paging

@@ -1,5 +1,5 @@
 -- What is shown of a machine, one call behind the other.
-use Rattle.std.proofs.Common.{◌≡◌, ◌+◌, ℕ, true, List, [], ◌++◌, append-nil, append_assoc, Option, Result, Ok, Err, refl, sym, ap, subst, ◌∙◌, arith}
+use Rattle.std.proofs.Common.{◌≡◌, ℕ, true, List, [], ◌++◌, append-nil, append_assoc, Option, Result, Ok, Err, refl, sym, ap, subst, ◌∙◌, arith}
 use Rattle.vax_outside.specs.Channels.{Channels, Grew, GrewByPrefix, nothing, only}
 use Rattle.vax_outside.specs.Faults.{CountsFailure}
 use Rattle.vax_outside.specs.declared.traits.Chan.TheVariants.{Report}
@@ -8,12 +8,13 @@ use Rattle.vax_outside.proofs.Counting.{rose_then}
 use Rattle.vax_outside.proofs.Growth.{grew_nothing, prefix_stays, prefix_within, report_grew}
 use Rattle.vax_flat.specs.Step.{Flat}
 use Rattle.vax_machine.specs.Console.{memory_from}
-use Rattle.vax_console.specs.Ends.{Scene}
+use Rattle.vax_console.specs.Ends.{OnlyReplied, Scene}
 use Rattle.vax_console.specs.Transcript.{Session}
 use Rattle.vax_debug.specs.Sessions.{Counts, IsHere, Origin, ShowsFrom, StaysHere}
 use Rattle.vax_debug.specs.declared.failure.Failure.{Failure}
 use Rattle.vax_debug.specs.declared.failure.Failure.TheVariants as failure
-use Rattle.vax_debug_views.specs.Showing.{Replied, Shows, with_sink}
+use Rattle.vax_debug.proofs.Reported.{prefix_report, report_only}
+use Rattle.vax_debug_views.specs.Showing.{OnlyTold, Replied, Shows, with_sink}
 
 -- failures that are counted
 
@@ -22,6 +23,29 @@ write_counts file before now c = (omega arith, c.later, c.cause, λ n. absurd (n
 
 pub fault_counts : (f g h x y : Failures) → g.count ≡ f.count → y.count ≡ x.count → CountsFailure true g h → Counts (Err failure.PageFault) f h x y
 fault_counts f g h x y a b c = (let l = c.later in omega (arith, a, l), rose_then a c.cause, b)
+
+-- nothing but Report grew
+
+pub none_told : (a : Option Channels) → OnlyTold a a
+none_told a = record { told = []; grew = grew_nothing a }
+
+pub told_then : (a b c : Option Channels) → OnlyTold a b → OnlyTold b c → OnlyTold a c
+told_then a b c p q = record { told = p.told ++ q.told; grew = report_grew a b c p.told q.told p.grew q.grew }
+
+part_told : (a b : Option Channels) (text : List ℕ) → GrewByPrefix a b (only Report text) → OnlyTold a b
+part_told a b text p = record { told = p.prefix.report; grew = prefix_report a b text p }
+
+pub reply_told : (r : Result (Unit {0}) Failure) (a b : Option Channels) (text : List ℕ) → Replied r a b text → OnlyTold a b
+reply_told (Ok x) a b text p = record { told = text; grew = p }
+reply_told (Err failure.Turns) a b text p = absurd p
+reply_told (Err failure.PageFault) a b text p = part_told a b text p
+reply_told (Err failure.WriteFault) a b text p = part_told a b text p
+
+pub told_only : (a b : Option Channels) → OnlyTold a b → OnlyReplied a b
+told_only a b p = report_only a b p.told p.grew
+
+pub replied_only : (r : Result (Unit {0}) Failure) (a b : Option Channels) (text : List ℕ) → Replied r a b text → OnlyReplied a b
+replied_only r a b text p = told_only a b (reply_told r a b text p)
 
 -- one call
 
@@ -42,6 +66,7 @@ pub replied_shows : (v : Scene) (b : Option Channels) (r : Result (Unit {0}) Fai
 replied_shows v b r text told is p = record {
   stays = λ sink o s replies here. here;
   replied = λ sink o s replies here. subst (λ (z : List ℕ). Replied r v.sink b z) (is sink o s replies here) p;
+  only = reply_told r v.sink b text p;
 }
 
 -- a reply of what memory has
@@ -50,6 +75,7 @@ pub looked_shows : (v w : Scene) (b : Option Channels) (r : Result (Unit {0}) Fa
 looked_shows v w b r text addr count cells stays shows p = record {
   stays = stays;
   replied = λ sink o s replies here. subst (λ (z : List (Option ℕ)). Replied r v.sink b (text z)) (shows sink o s replies here) p;
+  only = reply_told r v.sink b (text cells) p;
 }
 
 -- a call that shows, behind one that looks something up
@@ -58,6 +84,7 @@ shows_behind v w x r inner outer stays is p = record {
   stays = λ sink o s replies here. p.stays sink o s replies (stays sink o s replies here);
   replied = λ sink o s replies here.
       subst (λ (z : List ℕ). Replied r v.sink x.sink z) (is sink o s replies here) (p.replied sink o s replies (stays sink o s replies here));
+  only = p.only;
 }
 
 -- a call of the page file failed before anything was written
@@ -65,6 +92,7 @@ pub shows_cut : (v w : Scene) (told : Flat → List ℕ) → Stays v w → Shows
 shows_cut v w told stays = record {
   stays = stays;
   replied = λ sink o s replies here. none_yet v.sink (told s.machine);
+  only = none_told v.sink;
 }
 
 -- line by line
@@ -80,11 +108,13 @@ pub record IsShowing (v w : Scene) (whole rest : Flat → List ℕ) : Type 0 whe
   pub stays : Stays v w
   pub replied : (sink : Option Channels) (o : Origin) (s : Session) (replies : List ℕ) → IsHere o s replies (with_sink sink v) →
       HasReplied v.sink w.sink (whole s.machine) (rest s.machine)
+  pub only : OnlyTold v.sink w.sink
 
 pub showing_first : (v : Scene) (whole rest : Flat → List ℕ) → ((m : Flat) → rest m ≡ whole m) → IsShowing v v whole rest
 showing_first v whole rest is = record {
   stays = λ sink o s replies here. here;
   replied = λ sink o s replies here. record { written = []; grew = grew_nothing v.sink; splits = is s.machine };
+  only = none_told v.sink;
 }
 
 -- a line more
@@ -98,6 +128,7 @@ showing_line v w x u whole rest line after q p is = record {
         grew = report_grew v.sink w.sink x.sink k.written (line s.machine) k.grew (p.replied sink o s replies (q.stays sink o s replies here));
         splits = append_assoc k.written (line s.machine) (after s.machine) ∙ (ap (λ (z : List ℕ). k.written ++ z) (sym (is s.machine)) ∙ k.splits);
       };
+  only = told_then v.sink w.sink x.sink q.only p.only;
 }
 
 -- something was looked up, by which the rest is told in other words
@@ -111,6 +142,7 @@ showing_next v w x whole rest after q stays is = record {
         grew = k.grew;
         splits = ap (λ (z : List ℕ). k.written ++ z) (sym (is sink o s replies (q.stays sink o s replies here))) ∙ k.splits;
       };
+  only = q.only;
 }
 
 all_written : (a b : Option Channels) (whole rest : List ℕ) → HasReplied a b whole rest → rest ≡ [] → Grew a b (only Report whole)
@@ -123,6 +155,7 @@ pub showing_done : (v w : Scene) (whole rest : Flat → List ℕ) → IsShowing 
 showing_done v w whole rest q none = record {
   stays = q.stays;
   replied = λ sink o s replies here. all_written v.sink w.sink (whole s.machine) (rest s.machine) (q.replied sink o s replies here) (none s.machine);
+  only = q.only;
 }
 
 line_lost : (e : Failure) (a b c : Option Channels) (written line after whole : List ℕ) → written ++ (line ++ after) ≡ whole → Grew a b (only Report written) → Replied (Err e) b c line → Replied (Err e) a c whole
@@ -138,6 +171,7 @@ showing_lost v w x e whole rest line after q p is = record {
       let k = q.replied sink o s replies here in
       line_lost e v.sink w.sink x.sink k.written (line s.machine) (after s.machine) (whole s.machine)
       (ap (λ (z : List ℕ). k.written ++ z) (sym (is s.machine)) ∙ k.splits) k.grew (p.replied sink o s replies (q.stays sink o s replies here));
+  only = told_then v.sink w.sink x.sink q.only p.only;
 }
 
 -- a call of the page file failed between lines
@@ -147,4 +181,5 @@ showing_cut v w x whole rest q stays = record {
   replied = λ sink o s replies here.
       let k = q.replied sink o s replies here in
       prefix_stays v.sink w.sink w.sink Report k.written (rest s.machine) (whole s.machine) k.splits k.grew refl;
+  only = q.only;
 }

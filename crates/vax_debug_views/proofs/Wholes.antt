@@ -12,7 +12,7 @@ use Rattle.vax_debug_words.specs.declared.request.Span.{Span}
 use Rattle.vax_debug_names.specs.declared.Symbol.{Symbol}
 use Rattle.vax_debug_replies.specs.Instructions.{instruction_at, length_of}
 use Rattle.vax_debug_replies.specs.declared.frames.Frame.{Frame}
-use Rattle.vax_debug_values.specs.Values.{evaluated}
+use Rattle.vax_debug.specs.Values.{evaluated}
 use Rattle.vax_debug_views.specs.Views.{behind_instruction, beyond, bytes_at, caller, disassembled, disassembled_here, entries_from, frame_of, frames_from, frames_shown, innermost, instructions_shown, memory_at_shown, memory_shown, nowhere_line, of_value, queue_shown, saved, stack_shown, values_shown}
 
 -- expressions

@@ -20,9 +20,15 @@ Replied (Err failure.WriteFault) before after text = GrewByPrefix before after (
 abbrev pub with_sink : Option Channels → Scene → Scene
 with_sink sink v = scene v.machine v.file sink
 
+-- nothing but Report grew
+pub record OnlyTold (before after : Option Channels) : Type 0 where
+  pub told : List ℕ
+  pub grew : Grew before after (only Report told)
+
 -- In each session that the machine makes, it is where it was, and what is told of the session's flat machine was replied. The channels of the session may be
--- any: nothing is told of them.
+-- any: nothing is told of them. Also where the machine makes no session, nothing but Report grew.
 pub record Shows (before after : Scene) (result : Result (Unit {0}) Failure) (told : Flat → List ℕ) : Type 0 where
   pub stays : (sink : Option Channels) → StaysHere (with_sink sink before) (with_sink sink after)
   pub replied : (sink : Option Channels) (o : Origin) (s : Session) (replies : List ℕ) → IsHere o s replies (with_sink sink before) →
       Replied result before.sink after.sink (told s.machine)
+  pub only : OnlyTold before.sink after.sink

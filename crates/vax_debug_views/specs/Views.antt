@@ -16,7 +16,7 @@ use Rattle.vax_debug_replies.specs.Instructions.{instruction_at, instruction_lin
 use Rattle.vax_debug_replies.specs.Status.{status_line}
 use Rattle.vax_debug_replies.specs.Values.{ascii_line, value_line}
 use Rattle.vax_debug_replies.specs.declared.frames.Frame.{Frame}
-use Rattle.vax_debug_values.specs.Values.{evaluated}
+use Rattle.vax_debug.specs.Values.{evaluated}
 
 -- the processor
 

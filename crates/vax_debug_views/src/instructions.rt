@@ -13,10 +13,9 @@ ghost use Rattle.vax_debug_views.specs.Showing.{Replied, Shows};
 ghost use Rattle.vax_debug_views.specs.Views.{behind_instruction, disassembled, disassembled_here, instruction_shown, instructions_shown};
 
 use crate::replying::{reply, reply_nowhere};
-use vax_debug::{Failure, examine};
+use vax_debug::{Failure, evaluate, examine};
 use vax_debug_names::Symbol;
 use vax_debug_replies::{push_instruction_line, span_of};
-use vax_debug_values::evaluate;
 use vax_debug_words::Span;
 use vax_machine::Machine;
 use vax_outside::{PageFile, Sink, Text};

@@ -10,9 +10,8 @@ ghost use Rattle.vax_debug_views.specs.Views.{memory_at_shown, memory_shown, sta
 use crate::instructions::show_instructions;
 use crate::replying::reply_nowhere;
 use crate::values::{show_characters, show_values};
-use vax_debug::Failure;
+use vax_debug::{Failure, evaluate};
 use vax_debug_names::Symbol;
-use vax_debug_values::evaluate;
 use vax_debug_words::{Form, Span};
 use vax_machine::Machine;
 use vax_outside::{PageFile, Sink};

@@ -12,9 +12,8 @@ ghost use Rattle.vax_debug_views.specs.Views.{entries_from, next_entry, queue_sh
 
 use crate::replying::reply_nowhere;
 use crate::values::show_value;
-use vax_debug::{Failure, longword};
+use vax_debug::{Failure, evaluate, longword};
 use vax_debug_names::Symbol;
-use vax_debug_values::evaluate;
 use vax_debug_words::Expression;
 use vax_machine::Machine;
 use vax_outside::{PageFile, Sink};

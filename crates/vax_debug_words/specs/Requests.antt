@@ -109,10 +109,10 @@ memory_put (Some to) value = option_map (request.DepositMemory to) value
 abbrev pub put_by : Option ℕ → Text → Text → Option Request
 put_by (Some n) what given = option_map (request.DepositRegister n) (expression given)
 put_by None what given =
-    if is_called (codes "PSL") what then None
+    if is_called (codes "PSL") what then option_map request.DepositStatus (expression given)
     else memory_put (expression what) (value_of form.Long given)
 
--- into a register or memory
+-- into a register, the status or memory
 abbrev pub put_at : Option Form → Text → Text → Option Request
 put_at None what given = put_by (register what) what given
 put_at (Some f) what given = memory_put (expression what) (value_of f given)
@@ -185,6 +185,8 @@ asked_plainly command.Show operands = shown operands
 asked_plainly command.Where operands = alone request.Where operands
 asked_plainly command.Stack operands = stacked operands
 asked_plainly command.Queue operands = option_map request.Queue (one_expression operands)
+asked_plainly command.Pages operands = alone request.Pages operands
+asked_plainly command.Turn operands = alone request.Turn operands
 asked_plainly command.Evict operands = evicted operands
 asked_plainly command.Help operands = helped operands
 asked_plainly command.Quit operands = alone request.Quit operands
@@ -270,6 +272,7 @@ IsProper (request.ExamineRegister n) = n < 16
 IsProper request.ExamineStatus = Unit {0}
 IsProper (request.ExamineMemory f at) = IsSpan at
 IsProper (request.DepositRegister n e) = (n < 16) × IsExpression e
+IsProper (request.DepositStatus e) = IsExpression e
 IsProper (request.DepositMemory e v) = IsExpression e × IsValue v
 IsProper (request.Disassemble at) = IfSome at IsSpan
 IsProper (request.Step n) = (1 ≤ n) × (n ≤ 10 ^ 15)
@@ -283,6 +286,8 @@ IsProper request.Show = Unit {0}
 IsProper request.Where = Unit {0}
 IsProper (request.Stack n) = IsCount n
 IsProper (request.Queue e) = IsExpression e
+IsProper request.Pages = Unit {0}
+IsProper request.Turn = Unit {0}
 IsProper (request.Evict e) = IsExpression e
 IsProper request.EvictAll = Unit {0}
 IsProper (request.Help c) = Unit {0}

@@ -21,13 +21,15 @@ pub enum Command {
     Where,
     Stack,
     Queue,
+    Pages,
+    Turn,
     Evict,
     Help,
     Quit,
 }
 
 /// All commands.
-pub const COMMANDS: [Command; 17] = [
+pub const COMMANDS: [Command; 19] = [
     Command::Examine,
     Command::Deposit,
     Command::Disassemble,
@@ -42,6 +44,8 @@ pub const COMMANDS: [Command; 17] = [
     Command::Where,
     Command::Stack,
     Command::Queue,
+    Command::Pages,
+    Command::Turn,
     Command::Evict,
     Command::Help,
     Command::Quit,
@@ -93,6 +97,8 @@ fn name(command: Command) -> &'static [u8]
         Command::Where => b"WHERE",
         Command::Stack => b"STACK",
         Command::Queue => b"QUEUE",
+        Command::Pages => b"PAGES",
+        Command::Turn => b"TURN",
         Command::Evict => b"EVICT",
         Command::Help => b"HELP",
         Command::Quit => b"QUIT",
@@ -191,7 +197,7 @@ pub fn usage(command: Command) -> &'static [u8]
 {
     match command {
         Command::Examine => b"EXAMINE[/FORM] x [n]     shows a register, PSL or n values in memory",
-        Command::Deposit => b"DEPOSIT[/FORM] x v       puts a value into a register or memory",
+        Command::Deposit => b"DEPOSIT[/FORM] x v       puts a value into a register, PSL or memory",
         Command::Disassemble => b"DISASSEMBLE [x [n]]      shows n instructions from x or PC on",
         Command::Step => b"STEP [n]                 makes n steps",
         Command::Over => b"OVER                     makes a step, or all of those of a call",
@@ -204,6 +210,9 @@ pub fn usage(command: Command) -> &'static [u8]
         Command::Where => b"WHERE                    shows the frames of calls",
         Command::Stack => b"STACK [n]                shows n longwords of the stack",
         Command::Queue => b"QUEUE x                  follows a queue",
+        Command::Pages =>
+            b"PAGES                    shows which pages are resident, kept and modified",
+        Command::Turn => b"TURN                     makes one attempt at a step",
         Command::Evict => b"EVICT x, EVICT ALL       makes a page absent, or all pages",
         Command::Help => b"HELP [word]              tells how commands are used",
         Command::Quit => b"QUIT                     ends",

@@ -225,7 +225,16 @@ fn register_put(register: u8, given: &[u8]) -> Option<Request>
     expression(given).map(|value| Request::DepositRegister { register, value })
 }
 
-/// Into a register or a longword; the status has no value to be put into.
+/// A number into the status.
+#[tactic(auto, unfolding(crate::specs::Requests::IsProper))]
+fn status_put(given: &[u8]) -> Option<Request>
+    ensures request { result ≡ option_map request.DepositStatus (expression given.now) }
+    ensures proper { IfSome result IsProper }
+{
+    expression(given).map(Request::DepositStatus)
+}
+
+/// Into a register, the status or a longword.
 #[tactic(auto, unfolding(crate::specs::Requests::IsProper))]
 fn put_plainly(what: &[u8], given: &[u8]) -> Option<Request>
     ensures request { result ≡ put_at None what.now given.now }
@@ -233,12 +242,12 @@ fn put_plainly(what: &[u8], given: &[u8]) -> Option<Request>
 {
     match register(what) {
         Some(n) => register_put(n, given),
-        None if is_called(what, b"PSL") => None,
+        None if is_called(what, b"PSL") => status_put(given),
         None => memory_put(Form::Long, what, given),
     }
 }
 
-/// Into a register or memory.
+/// Into a register, the status or memory.
 fn put_at(form: Option<Form>, what: &[u8], given: &[u8]) -> Option<Request>
     ensures request { result ≡ put_at form what.now given.now }
     ensures proper { IfSome result IsProper }

@@ -34,6 +34,8 @@ fn asked_plainly(command: Command, operands: &[u8]) -> Option<Request>
         Command::Where => alone(Request::Where, operands),
         Command::Stack => stacked(operands),
         Command::Queue => queued(operands),
+        Command::Pages => alone(Request::Pages, operands),
+        Command::Turn => alone(Request::Turn, operands),
         Command::Evict => evicted(operands),
         Command::Help => helped(operands),
         Command::Quit => alone(Request::Quit, operands),

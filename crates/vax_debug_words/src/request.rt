@@ -133,6 +133,8 @@ pub enum Request {
     ExamineMemory(Form, Span),
     /// Another value of a register, R0 to R15.
     DepositRegister { register: u8, value: Expression },
+    /// Another value of the processor status longword.
+    DepositStatus(Expression),
     /// Another value in memory.
     DepositMemory { to: Expression, value: Value },
     /// So many instructions, or ten from PC on.
@@ -159,6 +161,10 @@ pub enum Request {
     Stack(u8),
     /// The entries of a queue.
     Queue(Expression),
+    /// Which pages are resident, kept and modified.
+    Pages,
+    /// One attempt at a step.
+    Turn,
     /// The page of an address made absent.
     Evict(Expression),
     /// All pages made absent.

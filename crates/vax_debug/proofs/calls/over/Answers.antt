@@ -1,4 +1,4 @@
-use Rattle.std.proofs.Common.{◌≡◌, ◌+◌, ◌<◌, ◌^◌, Option, refl, subst, sym}
+use Rattle.std.proofs.Common.{◌≡◌, Option, refl, subst}
 use Rattle.std.specs.Prelude.{None, Some}
 use Rattle.vax_machine.specs.Meaning.{engine}
 use Rattle.vax_console.specs.Ends.{scene}
@@ -7,28 +7,29 @@ use Rattle.vax_debug.specs.Sessions.{Arrives}
 use Rattle.vax_debug.specs.declared.breaks.Goal.{Goal}
 use Rattle.vax_debug.proofs.Arriving.{counts_then}
 use Rattle.vax_debug.proofs.Calling.{within_here}
+use Rattle.vax_console.proofs.Only.{only_none}
 use Rattle.vax_debug.proofs.calls.over.Goals as goal
 
 pub returns-in-Ok-None-clause-goes : goal.returns-in-Ok-None-clause-goes
-returns-in-Ok-None-clause-goes g c = λ o s replies here few.
+returns-in-Ok-None-clause-goes g c = λ o s replies here.
     let limit = c.args.limits.now.steps in
     let sink = g.K.Sink.contents c.args.sink.now in
     let w = scene (engine c.step.new.machine) (g.F.PageFile.contents c.step.new.file) (g.K.Sink.contents c.step.new.sink) in
     let is : None ≡ call_goal s.machine = (rw c.in-Ok-None.field-0-is at c.in-Ok-None.ensures.tells) sink o s replies here in
     subst (λ (k : Option Goal). Arrives c.step.result c.args.limits.now.turns (over_count_to limit k s) (over_to limit k c.args.breaks.now s) o s replies w) is
-    (c.step.ensures.goes o s replies (c.call_goal.ensures.stays sink o s replies here) (subst (λ (k : Option Goal). s.steps + over_count_to limit k s < 2 ^ 64) (sym is) few))
+    (c.step.ensures.goes o s replies (c.call_goal.ensures.stays sink o s replies here))
 
 pub returns-in-Ok-Some-clause-goes : goal.returns-in-Ok-Some-clause-goes
-returns-in-Ok-Some-clause-goes g c = λ o s replies here few.
+returns-in-Ok-Some-clause-goes g c = λ o s replies here.
     let limit = c.args.limits.now.steps in
     let sink = g.K.Sink.contents c.args.sink.now in
     let w = scene (engine c.go_to.new.machine) (g.F.PageFile.contents c.go_to.new.file) (g.K.Sink.contents c.go_to.new.sink) in
     let is : Some c.in-Ok-Some.goal ≡ call_goal s.machine = (rw c.in-Ok-Some.field-0-is at c.in-Ok-Some.ensures.tells) sink o s replies here in
     subst (λ (k : Option Goal). Arrives c.go_to.result c.args.limits.now.turns (over_count_to limit k s) (over_to limit k c.args.breaks.now s) o s replies w) is
-    (c.go_to.ensures.goes o s replies (c.call_goal.ensures.stays sink o s replies here) (subst (λ (k : Option Goal). s.steps + over_count_to limit k s < 2 ^ 64) (sym is) few))
+    (c.go_to.ensures.goes o s replies (c.call_goal.ensures.stays sink o s replies here))
 
 pub returns-in-Err-clause-goes : goal.returns-in-Err-clause-goes
-returns-in-Err-clause-goes g c = λ o s replies here few.
+returns-in-Err-clause-goes g c = λ o s replies here.
     within_here o s (over_count c.args.limits.now.steps s) replies _ (c.call_goal.ensures.stays (g.K.Sink.contents c.args.sink.now) o s replies here)
 
 pub returns-in-Ok-None-clause-counts : goal.returns-in-Ok-None-clause-counts
@@ -39,3 +40,6 @@ returns-in-Ok-Some-clause-counts g c = counts_then c.go_to.result (g.F.PageFile.
 
 pub returns-in-Err-clause-counts : goal.returns-in-Err-clause-counts
 returns-in-Err-clause-counts g c = (c.in-Err.ensures.counts.later, c.in-Err.ensures.counts.cause, refl)
+
+pub returns-in-Err-clause-only : goal.returns-in-Err-clause-only
+returns-in-Err-clause-only g c = only_none _

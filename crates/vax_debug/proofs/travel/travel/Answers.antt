@@ -4,6 +4,7 @@ use Rattle.vax_console.specs.Ends.{scene}
 use Rattle.vax_console.specs.Transcript.{advanced, stepped}
 use Rattle.vax_debug.specs.Travel.{stops_at, travelled}
 use Rattle.vax_debug.proofs.Arriving.{comes_first, comes_on, comes_to_end, comes_to_stop, counts_then, fails_behind, has_number}
+use Rattle.vax_console.proofs.Only.{only_none, only_then}
 use Rattle.vax_debug.proofs.travel.travel.Goals as goal
 
 pub loop-init : goal.loop-init
@@ -11,6 +12,7 @@ loop-init g c = record {
   comes = λ o s replies h few. comes_first c.args.course.count (stops_at c.args.breaks.now c.args.course.goal) o s replies _ h;
   quiet = refl;
   written = refl;
+  only = only_none _;
 }
 
 pub returns-in-Err-clause-goes : goal.returns-in-Err-clause-goes
@@ -45,6 +47,7 @@ loop-preserved g c = record {
       (c.in-Ok.ensures.goes o (advanced i s) replies k.here (has_number c.args.course.count i s below few)) c.has_halted.ensures c.if-has_halted.false;
   quiet = c.in-Ok.ensures.counts.0 ∙ c.loop.invariant.quiet;
   written = c.in-Ok.ensures.counts.1 ∙ c.loop.invariant.written;
+  only = only_then _ _ _ c.loop.invariant.only c.make_step.ensures.only;
 }
 
 pub returns-clause-goes : goal.returns-clause-goes
@@ -55,3 +58,9 @@ returns-clause-goes g c = λ o s replies h few.
 
 pub returns-in-Err-clause-counts : goal.returns-in-Err-clause-counts
 returns-in-Err-clause-counts g c = counts_then (Err c.in-Err.failure) (g.F.PageFile.faults c.args.file.now) (g.F.PageFile.faults c.loop.file) (g.F.PageFile.faults c.make_step.new.file) (g.K.Sink.faults c.args.sink.now) (g.K.Sink.faults c.loop.sink) (g.K.Sink.faults c.make_step.new.sink) c.loop.invariant.quiet c.loop.invariant.written c.in-Err.ensures.counts
+
+pub returns-in-Err-clause-only : goal.returns-in-Err-clause-only
+returns-in-Err-clause-only g c = only_then _ _ _ c.loop.invariant.only c.make_step.ensures.only
+
+pub returns-then-has_halted-clause-only : goal.returns-then-has_halted-clause-only
+returns-then-has_halted-clause-only g c = only_then _ _ _ c.loop.invariant.only c.make_step.ensures.only

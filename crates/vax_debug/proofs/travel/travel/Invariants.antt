@@ -1,6 +1,6 @@
 use Rattle.std.proofs.Common.{◌≡◌, ℕ, ◌+◌, ◌<◌, ◌^◌, List}
 use Rattle.vax_machine.specs.Meaning.{engine}
-use Rattle.vax_console.specs.Ends.{scene}
+use Rattle.vax_console.specs.Ends.{OnlyReplied, scene}
 use Rattle.vax_console.specs.Transcript.{Session}
 use Rattle.vax_debug.specs.Sessions.{IsHere, Origin}
 use Rattle.vax_debug.specs.Travel.{stops_at}
@@ -14,4 +14,5 @@ invariant-loop g l = record {
       HasCome l.course.count l.counter (stops_at l.breaks l.course.goal) o s replies (scene (engine l.machine) (g.F.PageFile.contents l.file) (g.K.Sink.contents l.sink));
   quiet : (g.F.PageFile.faults l.file).count ≡ (g.F.PageFile.faults l.fn.file).count;
   written : (g.K.Sink.faults l.sink).count ≡ (g.K.Sink.faults l.fn.sink).count;
+  only : OnlyReplied (g.K.Sink.contents l.fn.sink) (g.K.Sink.contents l.sink);
 }

@@ -2,14 +2,15 @@ use Rattle.std.proofs.Common.{◌≡◌, ℕ, refl}
 use Rattle.std.specs.Prelude.{Some, None}
 use Rattle.vax_machine.specs.Meaning.{engine}
 use Rattle.vax_console.specs.Ends.{scene}
-use Rattle.vax_debug_acts.proofs.Telling.{breaks_at, breaks_same, counts_then, done, not_done, reply_counts, tells, with_value, without_value}
-use Rattle.vax_debug_values.specs.Values.{evaluated}
+use Rattle.vax_debug_acts.proofs.Telling.{breaks_at, breaks_same, counts_then, done, not_done, reply_counts, reply_only, tells, with_value, without_value}
+use Rattle.vax_debug.specs.Values.{evaluated}
 use Rattle.vax_debug.specs.Travel.{without}
 use Rattle.vax_debug_acts.specs.Acts.{clear_act, done_line, no_value_line, only_told}
+use Rattle.vax_console.proofs.Only.{only_none}
 use Rattle.vax_debug_acts.proofs.addresses.clear_at.Goals as goal
 
 pub returns-in-Ok-Some-clause-acts : goal.returns-in-Ok-Some-clause-acts
-returns-in-Ok-Some-clause-acts g c = λ o s replies here few.
+returns-in-Ok-Some-clause-acts g c = λ o s replies here.
     let limit = c.args.setting.now.limits.now.steps in
     let turns = c.args.setting.now.limits.now.turns in
     let sink = g.K.Sink.contents c.args.sink.now in
@@ -19,7 +20,7 @@ returns-in-Ok-Some-clause-acts g c = λ o s replies here few.
     with_value c.remove.result turns c.in-Ok-Some.address (evaluated c.args.setting.now.symbols.now c.args.at.now s.machine) (λ (a : ℕ). only_told s done_line) o s replies w is (done c.remove.result turns 0 o s s replies (done_line) w (tells c.remove.result (g.K.Sink.faults c.args.sink.now) (g.K.Sink.faults c.remove.new.sink) o s replies (done_line) (engine c.evaluate.new.machine) (g.F.PageFile.contents c.evaluate.new.file) sink (g.K.Sink.contents c.remove.new.sink) here2 c.remove.ensures.replies))
 
 pub returns-in-Ok-None-clause-acts : goal.returns-in-Ok-None-clause-acts
-returns-in-Ok-None-clause-acts g c = λ o s replies here few.
+returns-in-Ok-None-clause-acts g c = λ o s replies here.
     let limit = c.args.setting.now.limits.now.steps in
     let turns = c.args.setting.now.limits.now.turns in
     let sink = g.K.Sink.contents c.args.sink.now in
@@ -30,7 +31,7 @@ returns-in-Ok-None-clause-acts g c = λ o s replies here few.
     (tells c.tell_no_value.result (g.K.Sink.faults c.args.sink.now) (g.K.Sink.faults c.tell_no_value.new.sink) o s replies no_value_line (engine c.evaluate.new.machine) (g.F.PageFile.contents c.evaluate.new.file) sink (g.K.Sink.contents c.tell_no_value.new.sink) here2 c.tell_no_value.ensures)
 
 pub returns-in-Err-clause-acts : goal.returns-in-Err-clause-acts
-returns-in-Err-clause-acts g c = λ o s replies here few.
+returns-in-Err-clause-acts g c = λ o s replies here.
     let limit = c.args.setting.now.limits.now.steps in
     let turns = c.args.setting.now.limits.now.turns in
     let sink = g.K.Sink.contents c.args.sink.now in
@@ -57,3 +58,12 @@ returns-in-Ok-None-clause-breaks g c = λ o s replies here.
     let sink = g.K.Sink.contents c.args.sink.now in
     let is : None ≡ evaluated c.args.setting.now.symbols.now c.args.at.now s.machine = (rw c.in-Ok-None.field-0-is at c.in-Ok-None.ensures.tells) sink o s replies here in
     breaks_same c.tell_no_value.result (evaluated c.args.setting.now.symbols.now c.args.at.now s.machine) c.args.breaks.now (λ (a : ℕ). without a c.args.breaks.now) is
+
+pub returns-in-Ok-Some-clause-only : goal.returns-in-Ok-Some-clause-only
+returns-in-Ok-Some-clause-only g c = reply_only _ _ _ _ _ _ c.remove.ensures.replies
+
+pub returns-in-Ok-None-clause-only : goal.returns-in-Ok-None-clause-only
+returns-in-Ok-None-clause-only g c = reply_only _ _ _ _ _ _ c.tell_no_value.ensures
+
+pub returns-in-Err-clause-only : goal.returns-in-Err-clause-only
+returns-in-Err-clause-only g c = only_none _

@@ -2,13 +2,14 @@ use Rattle.std.proofs.Common.{◌≡◌, ℕ, refl}
 use Rattle.std.specs.Prelude.{Some, None}
 use Rattle.vax_machine.specs.Meaning.{engine}
 use Rattle.vax_console.specs.Ends.{scene}
-use Rattle.vax_debug_acts.proofs.Telling.{breaks_at, breaks_same, counts_then, done, not_done, reply_counts, tells, with_value, without_value}
-use Rattle.vax_debug_values.specs.Values.{evaluated}
+use Rattle.vax_debug_acts.proofs.Telling.{breaks_at, breaks_same, counts_then, done, not_done, reply_counts, reply_only, tells, with_value, without_value}
+use Rattle.vax_debug.specs.Values.{evaluated}
 use Rattle.vax_debug_acts.specs.Acts.{added_line, break_act, no_value_line, only_told, with_break}
+use Rattle.vax_console.proofs.Only.{only_none}
 use Rattle.vax_debug_acts.proofs.addresses.stop_at.Goals as goal
 
 pub returns-in-Ok-Some-clause-acts : goal.returns-in-Ok-Some-clause-acts
-returns-in-Ok-Some-clause-acts g c = λ o s replies here few.
+returns-in-Ok-Some-clause-acts g c = λ o s replies here.
     let limit = c.args.setting.now.limits.now.steps in
     let turns = c.args.setting.now.limits.now.turns in
     let sink = g.K.Sink.contents c.args.sink.now in
@@ -18,7 +19,7 @@ returns-in-Ok-Some-clause-acts g c = λ o s replies here few.
     with_value c.add.result turns c.in-Ok-Some.address (evaluated c.args.setting.now.symbols.now c.args.at.now s.machine) (λ (a : ℕ). only_told s (added_line c.args.setting.now.symbols.now c.args.breaks.now a)) o s replies w is (done c.add.result turns 0 o s s replies (added_line c.args.setting.now.symbols.now c.args.breaks.now c.in-Ok-Some.address) w (tells c.add.result (g.K.Sink.faults c.args.sink.now) (g.K.Sink.faults c.add.new.sink) o s replies (added_line c.args.setting.now.symbols.now c.args.breaks.now c.in-Ok-Some.address) (engine c.evaluate.new.machine) (g.F.PageFile.contents c.evaluate.new.file) sink (g.K.Sink.contents c.add.new.sink) here2 c.add.ensures.replies))
 
 pub returns-in-Ok-None-clause-acts : goal.returns-in-Ok-None-clause-acts
-returns-in-Ok-None-clause-acts g c = λ o s replies here few.
+returns-in-Ok-None-clause-acts g c = λ o s replies here.
     let limit = c.args.setting.now.limits.now.steps in
     let turns = c.args.setting.now.limits.now.turns in
     let sink = g.K.Sink.contents c.args.sink.now in
@@ -29,7 +30,7 @@ returns-in-Ok-None-clause-acts g c = λ o s replies here few.
     (tells c.tell_no_value.result (g.K.Sink.faults c.args.sink.now) (g.K.Sink.faults c.tell_no_value.new.sink) o s replies no_value_line (engine c.evaluate.new.machine) (g.F.PageFile.contents c.evaluate.new.file) sink (g.K.Sink.contents c.tell_no_value.new.sink) here2 c.tell_no_value.ensures)
 
 pub returns-in-Err-clause-acts : goal.returns-in-Err-clause-acts
-returns-in-Err-clause-acts g c = λ o s replies here few.
+returns-in-Err-clause-acts g c = λ o s replies here.
     let limit = c.args.setting.now.limits.now.steps in
     let turns = c.args.setting.now.limits.now.turns in
     let sink = g.K.Sink.contents c.args.sink.now in
@@ -56,3 +57,12 @@ returns-in-Ok-None-clause-breaks g c = λ o s replies here.
     let sink = g.K.Sink.contents c.args.sink.now in
     let is : None ≡ evaluated c.args.setting.now.symbols.now c.args.at.now s.machine = (rw c.in-Ok-None.field-0-is at c.in-Ok-None.ensures.tells) sink o s replies here in
     breaks_same c.tell_no_value.result (evaluated c.args.setting.now.symbols.now c.args.at.now s.machine) c.args.breaks.now (with_break c.args.breaks.now) is
+
+pub returns-in-Ok-Some-clause-only : goal.returns-in-Ok-Some-clause-only
+returns-in-Ok-Some-clause-only g c = reply_only _ _ _ _ _ _ c.add.ensures.replies
+
+pub returns-in-Ok-None-clause-only : goal.returns-in-Ok-None-clause-only
+returns-in-Ok-None-clause-only g c = reply_only _ _ _ _ _ _ c.tell_no_value.ensures
+
+pub returns-in-Err-clause-only : goal.returns-in-Err-clause-only
+returns-in-Err-clause-only g c = only_none _

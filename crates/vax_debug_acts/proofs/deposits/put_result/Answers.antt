@@ -2,24 +2,25 @@ use Rattle.std.proofs.Common.{◌≡◌, ℕ, refl}
 use Rattle.std.specs.Prelude.{Some, None}
 use Rattle.vax_machine.specs.Meaning.{engine}
 use Rattle.vax_console.specs.Ends.{scene}
-use Rattle.vax_debug_acts.proofs.Telling.{counts_then, not_done, reply_counts, tells, with_value, without_value}
-use Rattle.vax_debug_values.specs.Values.{evaluated}
+use Rattle.vax_debug_acts.proofs.Telling.{counts_then, not_done, reply_counts, reply_only, tells, with_value, without_value}
+use Rattle.vax_debug.specs.Values.{evaluated}
 use Rattle.vax_debug_words.specs.declared.request.Value.TheVariants.{Number}
 use Rattle.vax_debug_acts.specs.Acts.{no_value_line, number_bytes, put_act, put_value_act}
+use Rattle.vax_console.proofs.Only.{only_none}
 use Rattle.vax_debug_acts.proofs.deposits.put_result.Goals as goal
 
 pub returns-in-Ok-Some-clause-acts : goal.returns-in-Ok-Some-clause-acts
-returns-in-Ok-Some-clause-acts g c = λ o s replies here few.
+returns-in-Ok-Some-clause-acts g c = λ o s replies here.
     let limit = c.args.setting.now.limits.now.steps in
     let turns = c.args.setting.now.limits.now.turns in
     let sink = g.K.Sink.contents c.args.sink.now in
     let here2 = c.evaluate.ensures.stays sink o s replies here in
     let w = scene (engine c.put_number.new.machine) (g.F.PageFile.contents c.put_number.new.file) (g.K.Sink.contents c.put_number.new.sink) in
     let is : Some c.in-Ok-Some.number ≡ evaluated c.args.setting.now.symbols.now c.args.number.now s.machine = (rw c.in-Ok-Some.field-0-is at c.in-Ok-Some.ensures.tells) sink o s replies here in
-    with_value c.put_number.result turns c.in-Ok-Some.number (evaluated c.args.setting.now.symbols.now c.args.number.now s.machine) (λ (n : ℕ). put_act c.args.address (number_bytes c.args.size n) s) o s replies w is (c.put_number.ensures.acts c.args.setting.now.limits.now o s replies here2 few)
+    with_value c.put_number.result turns c.in-Ok-Some.number (evaluated c.args.setting.now.symbols.now c.args.number.now s.machine) (λ (n : ℕ). put_act c.args.address (number_bytes c.args.size n) s) o s replies w is (c.put_number.ensures.acts c.args.setting.now.limits.now o s replies here2)
 
 pub returns-in-Ok-None-clause-acts : goal.returns-in-Ok-None-clause-acts
-returns-in-Ok-None-clause-acts g c = λ o s replies here few.
+returns-in-Ok-None-clause-acts g c = λ o s replies here.
     let limit = c.args.setting.now.limits.now.steps in
     let turns = c.args.setting.now.limits.now.turns in
     let sink = g.K.Sink.contents c.args.sink.now in
@@ -30,7 +31,7 @@ returns-in-Ok-None-clause-acts g c = λ o s replies here few.
     (tells c.tell_no_value.result (g.K.Sink.faults c.args.sink.now) (g.K.Sink.faults c.tell_no_value.new.sink) o s replies no_value_line (engine c.evaluate.new.machine) (g.F.PageFile.contents c.evaluate.new.file) sink (g.K.Sink.contents c.tell_no_value.new.sink) here2 c.tell_no_value.ensures)
 
 pub returns-in-Err-clause-acts : goal.returns-in-Err-clause-acts
-returns-in-Err-clause-acts g c = λ o s replies here few.
+returns-in-Err-clause-acts g c = λ o s replies here.
     let limit = c.args.setting.now.limits.now.steps in
     let turns = c.args.setting.now.limits.now.turns in
     let sink = g.K.Sink.contents c.args.sink.now in
@@ -45,3 +46,9 @@ returns-in-Ok-None-clause-counts g c = counts_then c.tell_no_value.result (g.F.P
 
 pub returns-in-Err-clause-counts : goal.returns-in-Err-clause-counts
 returns-in-Err-clause-counts g c = (c.in-Err.ensures.counts.later, c.in-Err.ensures.counts.cause, refl)
+
+pub returns-in-Ok-None-clause-only : goal.returns-in-Ok-None-clause-only
+returns-in-Ok-None-clause-only g c = reply_only _ _ _ _ _ _ c.tell_no_value.ensures
+
+pub returns-in-Err-clause-only : goal.returns-in-Err-clause-only
+returns-in-Err-clause-only g c = only_none _

@@ -1,10 +1,11 @@
 use Rattle.std.proofs.Common.{◌≡◌, refl}
 use Rattle.vax_machine.specs.Meaning.{engine}
 use Rattle.vax_console.specs.Ends.{scene}
-use Rattle.vax_debug_acts.proofs.Telling.{counts_then, not_told, reply_counts, tells, tells_as}
+use Rattle.vax_debug_acts.proofs.Telling.{counts_then, not_told, reply_counts, reply_only, tells, tells_as}
 use Rattle.vax_debug_replies.specs.Stops.{stop}
 use Rattle.vax_debug_acts.specs.Acts.{stop_reply}
 use Rattle.vax_debug_acts.proofs.Stopping.{told_stop}
+use Rattle.vax_console.proofs.Only.{only_none}
 use Rattle.vax_debug_acts.proofs.stops.tell_stop.Goals as goal
 
 pub returns-in-Ok-clause-replies : goal.returns-in-Ok-clause-replies
@@ -28,3 +29,9 @@ returns-in-Ok-clause-counts g c = counts_then c.reply_stop.result (g.F.PageFile.
 
 pub returns-in-Err-clause-counts : goal.returns-in-Err-clause-counts
 returns-in-Err-clause-counts g c = (c.in-Err.ensures.counts.later, c.in-Err.ensures.counts.cause, refl)
+
+pub returns-in-Ok-clause-only : goal.returns-in-Ok-clause-only
+returns-in-Ok-clause-only g c = reply_only _ _ _ _ _ _ c.reply_stop.ensures
+
+pub returns-in-Err-clause-only : goal.returns-in-Err-clause-only
+returns-in-Err-clause-only g c = only_none _

@@ -3,7 +3,7 @@ use Rattle.vax_flat.specs.Step.{Flat}
 use Rattle.vax_machine.specs.Meaning.{engine}
 use Rattle.vax_console.specs.Ends.{scene}
 use Rattle.vax_debug.proofs.Arriving.{counts_then}
-use Rattle.vax_debug_values.specs.Values.{evaluated}
+use Rattle.vax_debug.specs.Values.{evaluated}
 use Rattle.vax_debug_views.specs.Views.{entries_from, nowhere_line, queue_shown}
 use Rattle.vax_debug_views.proofs.Telling.{fault_counts, replied_shows, shows_behind, shows_cut}
 use Rattle.vax_debug_views.proofs.Wholes.{queue_nowhere, queue_there}

@@ -1,0 +1,68 @@
+//! The request that makes one attempt.
+ghost use Rattle.std.specs.Prelude.{◌≡◌, ◌+◌, ◌<◌, ◌^◌, ◌-◌, false, nat_le};
+ghost use Rattle.vax_machine.specs.Meaning.{engine};
+ghost use Rattle.vax_console.specs.Ends.{OnlyReplied, scene};
+ghost use Rattle.vax_debug.specs.Pages.{pages_at, start_of_page};
+ghost use Rattle.vax_debug.specs.Sessions.{Counts};
+ghost use Rattle.vax_debug_replies.specs.Pages.{missed_line};
+ghost use Rattle.vax_debug_acts.specs.Acting.{ActsFrom, Replies};
+ghost use Rattle.vax_debug_acts.specs.Attempts.{turn_act};
+
+use crate::reply::reply_with;
+use crate::stops::{Setting, tell_stop};
+use vax_debug::{Breaks, Failure, attempt};
+use vax_debug_names::Symbol;
+use vax_debug_replies::push_missed_line;
+use vax_machine::{Limits, Machine};
+use vax_outside::{PageFile, Sink, Text};
+
+/// How many bytes a page has.
+const PAGE_BYTES: u32 = 512;
+
+/// Replies which page an attempt missed.
+fn tell_missed<K: Sink>(symbols: &[Symbol], page: u32, sink: &mut K) -> Result<(), Failure>
+    ensures { Replies result (K.faults sink.old) (K.faults sink.new)
+        (K.contents sink.old) (K.contents sink.new)
+        (missed_line symbols.now (start_of_page page)) }
+{
+    let mut text = Text::new();
+    push_missed_line(&mut text, symbols, page.wrapping_mul(PAGE_BYTES));
+    reply_with(text.as_slice(), sink)
+}
+
+/// Whether the limit of steps is reached.
+fn is_at_limit(machine: &Machine, limits: &Limits) -> bool
+    ensures limit { result ≡ nat_le limits.now.steps (engine machine.now).steps }
+    ensures room { result ≡ false → (engine machine.now).steps + 1 < 2 ^ 64 }
+{
+    limits.steps <= machine.steps()
+}
+
+/// Makes one attempt at a step, and tells which page it missed, or where and why the machine stopped behind the step. At the limit of steps it makes none.
+pub fn turn<F: PageFile, K: Sink>(
+    setting: &Setting,
+    breaks: &Breaks,
+    machine: &mut Machine,
+    file: &mut F,
+    sink: &mut K,
+) -> Result<(), Failure>
+    requires few_turns { setting.now.limits.now.turns < 2 ^ 64 - 2 }
+    ensures acts { ActsFrom
+        (scene (engine machine.old) (F.contents file.old) (K.contents sink.old))
+        (scene (engine machine.new) (F.contents file.new) (K.contents sink.new)) result
+        setting.now.limits.now
+        (turn_act setting.now.limits.now.steps setting.now.symbols.now breaks.now
+        (pages_at (engine machine.old))) }
+    ensures counts { Counts result (F.faults file.old) (F.faults file.new) (K.faults sink.old)
+        (K.faults sink.new) }
+    ensures only { OnlyReplied (K.contents sink.old) (K.contents sink.new) }
+{
+    if is_at_limit(machine, setting.limits) {
+        return tell_stop(setting, breaks, machine, file, sink);
+    }
+    match attempt(machine, setting.limits, setting.schedule, file, sink) {
+        Ok(Some(page)) => tell_missed(setting.symbols, page, sink),
+        Ok(None) => tell_stop(setting, breaks, machine, file, sink),
+        Err(failure) => Err(failure),
+    }
+}
