@@ -1,4 +1,4 @@
--- So many names and distinct options are no more than 32 items.
+-- So many names and distinct options are no more than 33 items.
 use Rattle.std.proofs.Common.{◌≡◌, ◌≤◌, ◌+◌, ◌&&◌, ℕ, Bool, true, false, nat_le, List, [], ◌∷◌, length, Option, None, Some, is_none, refl, arith}
 use Rattle.std.proofs.lemmas.Bool.Decides.{nat_tests}
 use Rattle.std.specs.Option.{option_and_then}
@@ -38,7 +38,7 @@ given items =
     + present (value key.Base items) + present (value key.Format items) + present (value key.Script items) + present (value key.Seed items)
     + present (value key.Size items) + present (value key.Strict items) + present (value key.Break items) + present (value key.Watch items)
     + present (value key.Text items) + present (value key.Opcode items) + present (value key.Count items) + present (value key.Absent items) + present (value key.Mode items)
-    + present (value key.Order items) + present (value key.Pool items) + present (value key.Dialect items)
+    + present (value key.Order items) + present (value key.Pool items) + present (value key.Dialect items) + present (value key.Prompt items)
 
 -- an option that wasn't there
 one_more : (k : Key) (word : Text) (items : List Item) → is_none (value k items) ≡ true → given (setting k word ∷ items) ≡ given items + 1
@@ -66,8 +66,9 @@ one_more key.Mode word items e = omega (arith, present-some word, present-none (
 one_more key.Order word items e = omega (arith, present-some word, present-none (value key.Order items) e)
 one_more key.Pool word items e = omega (arith, present-some word, present-none (value key.Pool items) e)
 one_more key.Dialect word items e = omega (arith, present-some word, present-none (value key.Dialect items) e)
+one_more key.Prompt word items e = omega (arith, present-some word, present-none (value key.Prompt items) e)
 
-few_given : (items : List Item) → given items ≤ 24
+few_given : (items : List Item) → given items ≤ 25
 few_given items =
     omega (
       arith,
@@ -95,6 +96,7 @@ few_given items =
       present-one (value key.Order items),
       present-one (value key.Pool items),
       present-one (value key.Dialect items),
+      present-one (value key.Prompt items),
     )
 
 both : (a b : Bool) → (a && b) ≡ true → (a ≡ true) × (b ≡ true)
@@ -116,6 +118,7 @@ few_names verb.List count e = grind (arith, nat_tests)
 few_names verb.Listing count e = grind (arith, nat_tests)
 few_names verb.Check count e = grind (arith, nat_tests)
 few_names verb.Console count e = grind (arith, nat_tests)
+few_names verb.Debug count e = grind (arith, nat_tests)
 few_names verb.Trace count e = grind (arith, nat_tests)
 few_names verb.Save count e = grind (arith, nat_tests)
 few_names verb.Resume count e = grind (arith, nat_tests)
@@ -123,26 +126,26 @@ few_names verb.Jobs count e = grind (arith, nat_tests)
 few_names verb.Work count e = grind (arith, nat_tests)
 few_names verb.Vectors count e = grind (arith, nat_tests)
 
-few_items : (v : Verb) (items : List Item) → (takes_files v (length (names items)) && are_distinct items) ≡ true → length items ≤ 32
+few_items : (v : Verb) (items : List Item) → (takes_files v (length (names items)) && are_distinct items) ≡ true → length items ≤ 33
 few_items v items e =
     let each = both (takes_files v (length (names items))) (are_distinct items) e in
     omega (arith, counted items each.1, few_names v (length (names items)) each.0, few_given items)
 
-short : (n : ℕ) → nat_le n 32 ≡ false → n ≤ 32 → ⊥
+short : (n : ℕ) → nat_le n 33 ≡ false → n ≤ 33 → ⊥
 short n e l = grind (arith, nat_tests)
 
-too_long : (v : Verb) (items : List Item) (b : Bool) → (takes_files v (length (names items)) && are_distinct items) ≡ b → nat_le (length items) 32 ≡ false → None ≡ checked v items
+too_long : (v : Verb) (items : List Item) (b : Bool) → (takes_files v (length (names items)) && are_distinct items) ≡ b → nat_le (length items) 33 ≡ false → None ≡ checked v items
 too_long v items true e long = absurd (short (length items) long (few_items v items e))
 too_long v items false e long = rw e refl
 
-by_length : (v : Verb) (items : List Item) (b : Bool) → nat_le (length items) 32 ≡ b → option_and_then (checked v) (at_most 32 items) ≡ checked v items
+by_length : (v : Verb) (items : List Item) (b : Bool) → nat_le (length items) 33 ≡ b → option_and_then (checked v) (at_most 33 items) ≡ checked v items
 by_length v items true e = rw e refl
 by_length v items false e = rw (e, ← too_long v items _ refl e) refl
 
--- more than 32 items are none of a command
-pub few_checked : (v : Verb) (items : Option (List Item)) → option_and_then (checked v) (option_and_then (at_most 32) items) ≡ option_and_then (checked v) items
+-- more than 33 items are none of a command
+pub few_checked : (v : Verb) (items : Option (List Item)) → option_and_then (checked v) (option_and_then (at_most 33) items) ≡ option_and_then (checked v) items
 few_checked v None = refl
 few_checked v (Some items) = by_length v items _ refl
 
-pub none_checked : (v : Verb) (items : Option (List Item)) → None ≡ option_and_then (at_most 32) items → None ≡ option_and_then (checked v) items
+pub none_checked : (v : Verb) (items : Option (List Item)) → None ≡ option_and_then (at_most 33) items → None ≡ option_and_then (checked v) items
 none_checked v items e = rw (← few_checked v items, ← e) refl

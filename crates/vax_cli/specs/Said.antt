@@ -5,7 +5,7 @@ use Rattle.std.specs.Global.{Global}
 use Rattle.std.specs.declared.string.String.{String}
 use Rattle.std.specs.Borrow.{Bor}
 use Rattle.vax_cli.specs.Words as words
-use Rattle.vax_cli.specs.Words.{Text, Said, bare, run, build, list, listing, check, console, trace, save, resume, jobs, work, vectors, about}
+use Rattle.vax_cli.specs.Words.{Text, Said, bare, run, build, list, listing, check, console, debug, trace, save, resume, jobs, work, vectors, about}
 use Rattle.vax_cli.specs.Items as plain
 use Rattle.vax_cli.specs.declared.command.DumpItem.{DumpItem}
 use Rattle.vax_cli.specs.Tracing as tracing_words
@@ -65,6 +65,7 @@ said (command.List files target) = list (names_of files.items) target
 said (command.Listing files target) = listing (names_of files.items) target
 said (command.Check files target system) = check (names_of files.items) target (option_copied system)
 said (command.Console files base script o) = console (names_of files.items) base script.now (options o)
+said (command.Debug files base prompt o) = debug (names_of files.items) base prompt (options o)
 said (command.Trace files base t o) = trace (names_of files.items) base (tracing t) (options o)
 said (command.Save files base o) = save (names_of files.items) base (options o)
 said (command.Resume name o) = resume name.now (options o)
@@ -112,6 +113,7 @@ IsWithin (list files target) = AreFiles files
 IsWithin (listing files target) = AreFiles files
 IsWithin (check files target system) = AreFiles files
 IsWithin (console files linked script o) = AreFiles files × AreWithin o
+IsWithin (debug files linked prompt o) = AreFiles files × AreWithin o
 IsWithin (trace files linked t o) = AreFiles files × IsTracing t × AreWithin o
 IsWithin (save files linked o) = AreFiles files × AreWithin o
 IsWithin (resume name o) = AreWithin o

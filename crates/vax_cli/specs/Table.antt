@@ -11,7 +11,7 @@ Text = List ℕ
 
 -- the commands
 abbrev pub verbs : List Verb
-verbs = verb.Bare ∷ verb.Run ∷ verb.Build ∷ verb.List ∷ verb.Listing ∷ verb.Check ∷ verb.Console ∷ verb.Trace ∷ verb.Save ∷ verb.Resume ∷ verb.Jobs ∷ verb.Work ∷ verb.Vectors ∷ []
+verbs = verb.Bare ∷ verb.Run ∷ verb.Build ∷ verb.List ∷ verb.Listing ∷ verb.Check ∷ verb.Console ∷ verb.Debug ∷ verb.Trace ∷ verb.Save ∷ verb.Resume ∷ verb.Jobs ∷ verb.Work ∷ verb.Vectors ∷ []
 
 abbrev pub verb_name : Verb → Text
 verb_name verb.Bare = codes "bare"
@@ -21,6 +21,7 @@ verb_name verb.List = codes "list"
 verb_name verb.Listing = codes "listing"
 verb_name verb.Check = codes "check"
 verb_name verb.Console = codes "console"
+verb_name verb.Debug = codes "debug"
 verb_name verb.Trace = codes "trace"
 verb_name verb.Save = codes "save"
 verb_name verb.Resume = codes "resume"
@@ -54,6 +55,7 @@ key_name key.Absent = codes "--absent"
 key_name key.Mode = codes "--mode"
 key_name key.Order = codes "--order"
 key_name key.Pool = codes "--pool"
+key_name key.Prompt = codes "--prompt"
 
 -- the options that a command takes
 abbrev pub keys_of : Verb → List Key
@@ -64,6 +66,7 @@ keys_of verb.List = key.Base ∷ key.Dialect ∷ []
 keys_of verb.Listing = key.Base ∷ key.Dialect ∷ []
 keys_of verb.Check = key.Base ∷ key.Dialect ∷ key.System ∷ []
 keys_of verb.Console = key.Script ∷ key.Base ∷ key.Dialect ∷ key.Input ∷ key.System ∷ key.Schedule ∷ key.Frames ∷ key.Steps ∷ key.Turns ∷ []
+keys_of verb.Debug = key.Base ∷ key.Dialect ∷ key.Input ∷ key.System ∷ key.Schedule ∷ key.Frames ∷ key.Steps ∷ key.Turns ∷ key.Prompt ∷ []
 keys_of verb.Trace = key.Base ∷ key.Dialect ∷ key.Input ∷ key.System ∷ key.Schedule ∷ key.Frames ∷ key.Steps ∷ key.Turns ∷ key.Dump ∷ key.Break ∷ key.Watch ∷ key.Text ∷ []
 keys_of verb.Save = key.Base ∷ key.Dialect ∷ key.Input ∷ key.System ∷ key.Schedule ∷ key.Frames ∷ key.Steps ∷ key.Turns ∷ []
 keys_of verb.Resume = key.Schedule ∷ key.Frames ∷ key.Steps ∷ key.Turns ∷ key.Dump ∷ []
@@ -112,6 +115,7 @@ place key.Mode = 20
 place key.Order = 21
 place key.Pool = 22
 place key.Dialect = 23
+place key.Prompt = 24
 
 abbrev pub is_same : Key → Key → Bool
 is_same a b = place a == place b

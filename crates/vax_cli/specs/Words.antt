@@ -47,6 +47,7 @@ pub data Said : Type 0 where
   listing : List Text → Target → Said
   check : List Text → Target → Option Text → Said
   console : List Text → Base → Text → Options → Said
+  debug : List Text → Base → Bool → Options → Said
   trace : List Text → Base → Tracing → Options → Said
   save : List Text → Base → Options → Said
   resume : Text → Options → Said
@@ -111,6 +112,14 @@ console_of items =
     option_and_then (λ options. if is_session base options then Some (console (names items) base script options) else None)
     (options_of Halt items)) (base_of (value key.Base items))) (value key.Script items)
 
+-- nor does a session whose lines come from standard input; before each of them a prompt stands or doesn't
+abbrev pub debug_of : List Item → Option Said
+debug_of items =
+    option_and_then (λ base.
+    option_and_then (λ prompt.
+    option_and_then (λ options. if is_session base options then Some (debug (names items) base prompt options) else None)
+    (options_of Halt items)) (switch_of (value key.Prompt items))) (base_of (value key.Base items))
+
 -- a traced run takes no other system on the bare machine either
 abbrev pub trace_of : List Item → Option Said
 trace_of items =
@@ -162,6 +171,7 @@ said_of verb.List items = option_map (λ target. list (names items) target) (tar
 said_of verb.Listing items = option_map (λ target. listing (names items) target) (target_of items)
 said_of verb.Check items = check_of items
 said_of verb.Console items = console_of items
+said_of verb.Debug items = debug_of items
 said_of verb.Trace items = trace_of items
 said_of verb.Save items = save_of items
 said_of verb.Resume items = resume_of (names items) (options_of Halt items)

@@ -57,6 +57,14 @@ pub enum Command<'a> {
         script: &'a str,
         options: Options<'a>,
     },
+    /// `debug FILE..`: run a program as lines say that are answered one at a time.
+    Debug {
+        files: Names<'a>,
+        base: Base,
+        /// `--prompt on` or `--prompt off`: whether a prompt stands before each line; off where no word says it.
+        prompt: bool,
+        options: Options<'a>,
+    },
     /// `trace FILE..`: run a program and list its steps.
     Trace {
         files: Names<'a>,

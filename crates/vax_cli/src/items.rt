@@ -9,8 +9,8 @@ use crate::command::Names;
 use crate::table::{Key, key_of};
 use arrayvec::ArrayVec;
 
-/// The items behind a command: at most 8 names, and each of the options, at most 24, once.
-pub(crate) type Items<'a> = ArrayVec<Item<'a>, 32>;
+/// The items behind a command: at most 8 names, and each of the options, at most 25, once.
+pub(crate) type Items<'a> = ArrayVec<Item<'a>, 33>;
 
 /// A name, or an option with its value.
 #[derive(Clone, Copy)]
@@ -69,11 +69,11 @@ fn read_word<'a>(keys: &[Key], pending: Option<Key>, word: &'a str) -> Option<Re
     }
 }
 
-/// The items that words say, names and options in any order, if there are at most 32.
+/// The items that words say, names and options in any order, if there are at most 33.
 #[tactic(auto, using(crate::proofs::Prefixes::few, crate::proofs::Prefixes::too_many, crate::proofs::Prefixes::cut_off))]
 pub(crate) fn read_items<'a>(keys: &[Key], words: &'a [String]) -> Option<Items<'a>>
     ensures { option_map (λ v. items_of v.items) result
-        ≡ option_and_then (at_most 32) (items_from keys.now None (texts words.entry.now)) }
+        ≡ option_and_then (at_most 33) (items_from keys.now None (texts words.entry.now)) }
 {
     let mut items = ArrayVec::new();
     let mut pending = None;

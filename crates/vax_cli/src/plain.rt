@@ -3,7 +3,7 @@ ghost use Rattle.std.specs.Prelude.{◌≡◌, IfSome, None, length, true};
 ghost use Rattle.std.specs.Option.{option_and_then, option_copied, option_map};
 ghost use Rattle.vax_cli.specs.Table.{keys_of, takes_files};
 ghost use Rattle.vax_cli.specs.Items.{items_from, names};
-ghost use Rattle.vax_cli.specs.Words.{asks_about, asks_help, behind, build_of, check_of, checked, command_of, console_of, is_session, may_have_system, options_of, resume_of, said_of, save_of, target_of, trace_of, vectors_of, work_of};
+ghost use Rattle.vax_cli.specs.Words.{asks_about, asks_help, behind, build_of, check_of, checked, command_of, console_of, debug_of, is_session, may_have_system, options_of, resume_of, said_of, save_of, target_of, trace_of, vectors_of, work_of};
 ghost use Rattle.vax_cli.specs.declared.command.Command.TheVariants.{About};
 ghost use Rattle.vax_cli.specs.declared.command.Strictness.TheVariants.{Halt};
 ghost use Rattle.vax_cli.specs.Said.{AreFiles, AreWithin, IsWithin, items_of, names_of, options, said, texts};
@@ -123,6 +123,26 @@ fn console_of<'a>(files: Names<'a>, items: &[Item<'a>]) -> Option<Command<'a>>
         files,
         base,
         script,
+        options,
+    })
+}
+
+fn debug_of<'a>(files: Names<'a>, items: &[Item<'a>]) -> Option<Command<'a>>
+    requires files { names_of files.items ≡ names (items_of items.now) }
+    requires are { AreFiles (names_of files.items) }
+    ensures said { option_map said result ≡ debug_of (items_of items.now) }
+    ensures within { IfSome result (λ c. IsWithin (said c)) }
+{
+    let base = base_of(value_in(Key::Base, items))?;
+    let prompt = switch_of(value_in(Key::Prompt, items))?;
+    let options = options_of(Strictness::Halt, items)?;
+    if !is_session(base, &options) {
+        return None;
+    }
+    Some(Command::Debug {
+        files,
+        base,
+        prompt,
         options,
     })
 }
@@ -264,6 +284,7 @@ fn said_of<'a>(verb: Verb, files: Names<'a>, items: &[Item<'a>]) -> Option<Comma
         }),
         Verb::Check => check_of(files, items),
         Verb::Console => console_of(files, items),
+        Verb::Debug => debug_of(files, items),
         Verb::Trace => trace_of(files, items),
         Verb::Save => save_of(files, items),
         Verb::Resume => resume_of(files.as_slice(), items),

@@ -12,6 +12,7 @@ pub(crate) enum Verb {
     Listing,
     Check,
     Console,
+    Debug,
     Trace,
     Save,
     Resume,
@@ -47,10 +48,11 @@ pub(crate) enum Key {
     Mode,
     Order,
     Pool,
+    Prompt,
 }
 
 /// The commands.
-pub(crate) const VERBS: [Verb; 13] = [
+pub(crate) const VERBS: [Verb; 14] = [
     Verb::Bare,
     Verb::Run,
     Verb::Build,
@@ -58,6 +60,7 @@ pub(crate) const VERBS: [Verb; 13] = [
     Verb::Listing,
     Verb::Check,
     Verb::Console,
+    Verb::Debug,
     Verb::Trace,
     Verb::Save,
     Verb::Resume,
@@ -65,6 +68,120 @@ pub(crate) const VERBS: [Verb; 13] = [
     Verb::Work,
     Verb::Vectors,
 ];
+
+// The options of each command.
+const BARE_KEYS: &[Key] = &[
+    Key::Dialect,
+    Key::Input,
+    Key::Schedule,
+    Key::Frames,
+    Key::Steps,
+    Key::Turns,
+    Key::Dump,
+    Key::Record,
+    Key::Strict,
+];
+
+const RUN_KEYS: &[Key] = &[
+    Key::Dialect,
+    Key::Input,
+    Key::System,
+    Key::Schedule,
+    Key::Frames,
+    Key::Steps,
+    Key::Turns,
+    Key::Dump,
+    Key::Record,
+    Key::Strict,
+];
+
+const BUILD_KEYS: &[Key] = &[Key::Base, Key::Dialect, Key::Format];
+
+const LISTING_KEYS: &[Key] = &[Key::Base, Key::Dialect];
+
+const CHECK_KEYS: &[Key] = &[Key::Base, Key::Dialect, Key::System];
+
+const CONSOLE_KEYS: &[Key] = &[
+    Key::Script,
+    Key::Base,
+    Key::Dialect,
+    Key::Input,
+    Key::System,
+    Key::Schedule,
+    Key::Frames,
+    Key::Steps,
+    Key::Turns,
+];
+
+const DEBUG_KEYS: &[Key] = &[
+    Key::Base,
+    Key::Dialect,
+    Key::Input,
+    Key::System,
+    Key::Schedule,
+    Key::Frames,
+    Key::Steps,
+    Key::Turns,
+    Key::Prompt,
+];
+
+const TRACE_KEYS: &[Key] = &[
+    Key::Base,
+    Key::Dialect,
+    Key::Input,
+    Key::System,
+    Key::Schedule,
+    Key::Frames,
+    Key::Steps,
+    Key::Turns,
+    Key::Dump,
+    Key::Break,
+    Key::Watch,
+    Key::Text,
+];
+
+const SAVE_KEYS: &[Key] = &[
+    Key::Base,
+    Key::Dialect,
+    Key::Input,
+    Key::System,
+    Key::Schedule,
+    Key::Frames,
+    Key::Steps,
+    Key::Turns,
+];
+
+const RESUME_KEYS: &[Key] = &[
+    Key::Schedule,
+    Key::Frames,
+    Key::Steps,
+    Key::Turns,
+    Key::Dump,
+];
+
+const JOBS_KEYS: &[Key] = &[
+    Key::Dialect,
+    Key::Order,
+    Key::Pool,
+    Key::Steps,
+    Key::Turns,
+    Key::Input,
+];
+
+const WORK_KEYS: &[Key] = &[
+    Key::Dialect,
+    Key::Seed,
+    Key::Size,
+    Key::Schedule,
+    Key::Frames,
+    Key::Steps,
+    Key::Turns,
+    Key::Dump,
+    Key::Record,
+    Key::Strict,
+];
+
+const VECTORS_KEYS: &[Key] = &[Key::Opcode, Key::Count, Key::Seed, Key::Absent, Key::Mode];
 
 impl Verb {
     /// Its word.
@@ -79,6 +196,7 @@ impl Verb {
             Verb::Listing => "listing",
             Verb::Check => "check",
             Verb::Console => "console",
+            Verb::Debug => "debug",
             Verb::Trace => "trace",
             Verb::Save => "save",
             Verb::Resume => "resume",
@@ -93,95 +211,19 @@ impl Verb {
         ensures { result.now ≡ keys_of self }
     {
         match self {
-            Verb::Bare => &[
-                Key::Dialect,
-                Key::Input,
-                Key::Schedule,
-                Key::Frames,
-                Key::Steps,
-                Key::Turns,
-                Key::Dump,
-                Key::Record,
-                Key::Strict,
-            ],
-            Verb::Run => &[
-                Key::Dialect,
-                Key::Input,
-                Key::System,
-                Key::Schedule,
-                Key::Frames,
-                Key::Steps,
-                Key::Turns,
-                Key::Dump,
-                Key::Record,
-                Key::Strict,
-            ],
-            Verb::Build => &[Key::Base, Key::Dialect, Key::Format],
-            Verb::List | Verb::Listing => &[Key::Base, Key::Dialect],
-            Verb::Check => &[Key::Base, Key::Dialect, Key::System],
-            Verb::Console => &[
-                Key::Script,
-                Key::Base,
-                Key::Dialect,
-                Key::Input,
-                Key::System,
-                Key::Schedule,
-                Key::Frames,
-                Key::Steps,
-                Key::Turns,
-            ],
-            Verb::Trace => &[
-                Key::Base,
-                Key::Dialect,
-                Key::Input,
-                Key::System,
-                Key::Schedule,
-                Key::Frames,
-                Key::Steps,
-                Key::Turns,
-                Key::Dump,
-                Key::Break,
-                Key::Watch,
-                Key::Text,
-            ],
-            Verb::Save => &[
-                Key::Base,
-                Key::Dialect,
-                Key::Input,
-                Key::System,
-                Key::Schedule,
-                Key::Frames,
-                Key::Steps,
-                Key::Turns,
-            ],
-            Verb::Resume => &[
-                Key::Schedule,
-                Key::Frames,
-                Key::Steps,
-                Key::Turns,
-                Key::Dump,
-            ],
-            Verb::Jobs => &[
-                Key::Dialect,
-                Key::Order,
-                Key::Pool,
-                Key::Steps,
-                Key::Turns,
-                Key::Input,
-            ],
-            Verb::Work => &[
-                Key::Dialect,
-                Key::Seed,
-                Key::Size,
-                Key::Schedule,
-                Key::Frames,
-                Key::Steps,
-                Key::Turns,
-                Key::Dump,
-                Key::Record,
-                Key::Strict,
-            ],
-            Verb::Vectors => &[Key::Opcode, Key::Count, Key::Seed, Key::Absent, Key::Mode],
+            Verb::Bare => BARE_KEYS,
+            Verb::Run => RUN_KEYS,
+            Verb::Build => BUILD_KEYS,
+            Verb::List | Verb::Listing => LISTING_KEYS,
+            Verb::Check => CHECK_KEYS,
+            Verb::Console => CONSOLE_KEYS,
+            Verb::Debug => DEBUG_KEYS,
+            Verb::Trace => TRACE_KEYS,
+            Verb::Save => SAVE_KEYS,
+            Verb::Resume => RESUME_KEYS,
+            Verb::Jobs => JOBS_KEYS,
+            Verb::Work => WORK_KEYS,
+            Verb::Vectors => VECTORS_KEYS,
         }
     }
 
@@ -199,6 +241,7 @@ impl Verb {
             | Verb::Listing
             | Verb::Check
             | Verb::Console
+            | Verb::Debug
             | Verb::Trace
             | Verb::Save
             | Verb::Jobs => 1 <= count && count <= 8,
@@ -236,6 +279,7 @@ impl Key {
             Key::Mode => "--mode",
             Key::Order => "--order",
             Key::Pool => "--pool",
+            Key::Prompt => "--prompt",
         }
     }
 

@@ -147,7 +147,7 @@ fn reads_dialects(rt: HostRuntime) -> Result<(), Fail> {
         dialect: Dialect::Vms,
         base: Base::User,
     };
-    let rows: [(&str, Command); 6] = [
+    let rows: [(&str, Command); 7] = [
         (
             "run A --dialect vms",
             Command::Run {
@@ -187,6 +187,15 @@ fn reads_dialects(rt: HostRuntime) -> Result<(), Fail> {
             },
         ),
         (
+            "debug A --dialect=vms",
+            Command::Debug {
+                files: names(&["A"]),
+                base: Base::User,
+                prompt: false,
+                options: larger(),
+            },
+        ),
+        (
             "jobs A --dialect vms",
             Command::Jobs {
                 files: names(&["A"]),
@@ -214,7 +223,7 @@ fn reads_dialects(rt: HostRuntime) -> Result<(), Fail> {
 /// Plain words of each command; clap reads them all.
 #[test]
 fn reads_commands(rt: HostRuntime) -> Result<(), Fail> {
-    let rows: [(&str, Command); 15] = [
+    let rows: [(&str, Command); 18] = [
         (
             "run A B C D E F G H",
             Command::Run {
@@ -303,6 +312,37 @@ fn reads_commands(rt: HostRuntime) -> Result<(), Fail> {
             },
         ),
         (
+            "debug A",
+            Command::Debug {
+                files: names(&["A"]),
+                base: Base::User,
+                prompt: false,
+                options: usual(),
+            },
+        ),
+        (
+            "debug --prompt on B --base=bare A",
+            Command::Debug {
+                files: names(&["B", "A"]),
+                base: Base::Bare,
+                prompt: true,
+                options: usual(),
+            },
+        ),
+        (
+            "debug A --system S --prompt=off --turns 9",
+            Command::Debug {
+                files: names(&["A"]),
+                base: Base::User,
+                prompt: false,
+                options: Options {
+                    system: Some("S"),
+                    turns: 9,
+                    ..usual()
+                },
+            },
+        ),
+        (
             "work",
             Command::Work {
                 seed: 1,
@@ -354,7 +394,7 @@ fn reads_commands(rt: HostRuntime) -> Result<(), Fail> {
 
 #[test]
 fn refuses_other_words(rt: HostRuntime) -> Result<(), Fail> {
-    let rows: [&str; 58] = [
+    let rows: [&str; 65] = [
         "",
         "boot A",
         "bare",
@@ -411,6 +451,13 @@ fn refuses_other_words(rt: HostRuntime) -> Result<(), Fail> {
         "console A",
         "console A --script L --dump 00000200:4",
         "console A --script L --base bare --system S",
+        "console A --script L --prompt on",
+        "debug",
+        "debug A --script L",
+        "debug A --base bare --system S",
+        "debug A --prompt yes",
+        "debug A --record on",
+        "debug A --dump 00000200:4",
         "work A",
         "work --size 5001",
     ];
@@ -433,7 +480,7 @@ fn has_all(parts: &[&str], text: &str) -> bool {
 
 #[test]
 fn shows_help(rt: HostRuntime) -> Result<(), Fail> {
-    let rows: [(&str, &[&str]); 10] = [
+    let rows: [(&str, &[&str]); 11] = [
         (
             "--help",
             &[
@@ -469,6 +516,14 @@ fn shows_help(rt: HostRuntime) -> Result<(), Fail> {
             &["--base <user|bare>", "vax check COUNT.MAR"],
         ),
         ("console --help", &["--script <FILE>", "CONTINUE and SHOW"]),
+        (
+            "debug --help",
+            &[
+                "Usage: vax debug [OPTIONS] <FILE>...",
+                "--prompt <on|off>",
+                "vax debug COUNT.MAR",
+            ],
+        ),
         (
             "work --help",
             &["Usage: vax work [OPTIONS]\n", "--seed <N>", "--size <N>"],

@@ -1,5 +1,5 @@
 -- What several programs come to, from what their processes did.
-use Rattle.std.proofs.Common.{◌≡◌, ◌⊎◌, ◌++◌, ◌≤◌, ◌*◌, ℕ, zero, suc, arith, List, [], ◌∷◌, length, take, drop, Option, Some, None, is_some, unwrap_or, Ok, refl, sym, ap, ◌∙◌, subst, append-nil, inl, inr}
+use Rattle.std.proofs.Common.{◌≡◌, ◌⊎◌, ◌++◌, ◌≤◌, ◌*◌, ℕ, zero, suc, arith, List, [], ◌∷◌, length, take, Option, Some, None, is_some, unwrap_or, Ok, refl, sym, ap, ◌∙◌, subst, append-nil, inl, inr}
 use Rattle.std.specs.Prelude.{codes}
 use Rattle.std.proofs.Math.Seq.{take-append_seam}
 use Rattle.vax_outside.specs.Blocks.{BlockFile}
@@ -22,7 +22,7 @@ use Rattle.vax_cli.specs.Words.{Text}
 use Rattle.vax_command.specs.Around.{HasFailed, Outside}
 use Rattle.vax_command.specs.Ends.{Admits, Ends}
 use Rattle.vax_command.specs.Jobs.{HasJobsTexts, IsJobsAnswer, IsOrderFault, JobsRan, JobsSetup, JobsWent, Users, jobs_answer, jobs_answer_to, jobs_files, jobs_setup}
-use Rattle.vax_command.specs.Reading.{Reads, file_limit, first_of, given, option_of}
+use Rattle.vax_command.specs.Reading.{Reads, file_limit, given, option_of}
 use Rattle.vax_command.specs.Status.{refusal_growth}
 use Rattle.vax_command.specs.declared.status.Status.{Status}
 use Rattle.vax_command.specs.declared.status.Status.TheVariants.{Done, Turns, PageFault, NoMemory}

@@ -14,7 +14,7 @@ use Rattle.vax_outside.specs.declared.faults.Failures.{Failures}
 use Rattle.vax_cli.specs.Words.{Options, Text}
 use Rattle.vax_command.specs.Reading.{EndsBy, HasTexts, Reads, ReadEndsFrom, Texts, behind, file_limit, first_of, given, joined_reads, of_options, option_of, read_files}
 use Rattle.vax_command.specs.declared.status.Status.{Status}
-use Rattle.vax_command.specs.declared.status.Status.TheVariants.{Done, Usage, Missing, Large, Refused, Link, Schedule, Image, Turns, PageFault, ReadFault, WriteFault, NoMemory, Saved, Order, NotHalted, Unsuccessful, Unfinished, Told}
+use Rattle.vax_command.specs.declared.status.Status.TheVariants.{Done, Usage, Missing, Large, Refused, Link, Schedule, Image, Turns, PageFault, ReadFault, WriteFault, NoMemory, Saved, Order, NotHalted, Unsuccessful, Unfinished, LineFault, Told}
 
 -- what reading some names gives, and then others
 abbrev joined : Result (List Text) (Text × FilesFault) → Result (List Text) (Text × FilesFault) → Result (List Text) (Text × FilesFault)
@@ -75,6 +75,7 @@ ends_more rose later P Q (Told which) up f e = e
 ends_more rose later P Q NotHalted up f e = e
 ends_more rose later P Q Unsuccessful up f e = e
 ends_more rose later P Q Unfinished up f e = e
+ends_more rose later P Q LineFault up f e = e
 
 -- the read of the first ends the call, or that of the second
 pub ends_first : (rose later : Type 0) (c : Option Directory) (xs ys : List Text) (status : Status) → (rose → later) → ReadEndsFrom rose c xs status → ReadEndsFrom later c (xs ++ ys) status

@@ -6,7 +6,7 @@ use Rattle.vax_outside.specs.declared.traits.FilesFault.{FilesFault}
 use Rattle.vax_space.specs.Faults.{IsSpace}
 use Rattle.vax_flat.specs.Parts.{machine_at}
 use Rattle.vax_flat.specs.Port.{layout}
-use Rattle.vax_cpu.specs.declared.cpu.Open.{Open}
+use Rattle.vax_machine.specs.Open.{Open}
 use Rattle.vax_flat.specs.Step.{Flat}
 use Rattle.vax_machine.specs.Machine.{keeping}
 use Rattle.vax_machine.specs.Meaning.{resumed_at}

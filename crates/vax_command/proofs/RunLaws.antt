@@ -12,7 +12,7 @@ use Rattle.vax_flat.specs.Parts.{Place, At, Within, machine_at, units_done}
 use Rattle.vax_flat.specs.Port.{layout}
 use Rattle.vax_flat.specs.Step.{Flat}
 use Rattle.vax_flat.specs.declared.Ending.TheVariants as ending
-use Rattle.vax_cpu.specs.Attempt.{open_at}
+use Rattle.vax_machine.specs.Attempt.{open_at}
 use Rattle.vax_pager.specs.Listing.{is_listed}
 use Rattle.vax_image.specs.Start.{Start, start_areas, start_core}
 use Rattle.vax_flat.specs.Start.{start_memory}

@@ -16,7 +16,6 @@ use Rattle.vax_machine.specs.Meaning.{units_of}
 use Rattle.vax_report.specs.Report.{report}
 use Rattle.vax_save.specs.Saving.{IsKept}
 use Rattle.vax_machine.specs.Paged.{Eviction, Paged, Why, ByEnding, BySteps, ByTurns}
-use Rattle.vax_machine.specs.Run as machine
 use Rattle.vax_machine.specs.Run.{FewTurns, IsWhole, why_of}
 use Rattle.vax_machine.specs.Writing.{OnlyWrote, both, lines_of}
 use Rattle.vax_machine.proofs.Unwritten.{writes_suffice}

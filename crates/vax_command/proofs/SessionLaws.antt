@@ -6,7 +6,7 @@ use Rattle.vax_outside.specs.declared.traits.Chan.TheVariants.{Report}
 use Rattle.vax_outside.proofs.Growth.{append-nothing}
 use Rattle.vax_flat.specs.Parts.{Place, At, Within, machine_at, units_done}
 use Rattle.vax_flat.specs.Step.{Flat}
-use Rattle.vax_cpu.specs.Attempt.{open_at}
+use Rattle.vax_machine.specs.Attempt.{open_at}
 use Rattle.vax_image.specs.Start.{start_areas}
 use Rattle.vax_sched.specs.Faults.{Denotes}
 use Rattle.vax_sched.specs.declared.rule.Rule.{Rule}

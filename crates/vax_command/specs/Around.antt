@@ -1,5 +1,5 @@
 -- What a call sees of the outside: the files, the output channels and the page file, before it and after it.
-use Rattle.std.specs.Prelude.{◌≡◌, Option, None}
+use Rattle.std.specs.Prelude.{◌≡◌, ℕ, List, Option, None}
 use Rattle.vax_outside.specs.Blocks.{BlockFile}
 use Rattle.vax_outside.specs.Channels.{Channels}
 use Rattle.vax_outside.specs.Directory.{Directory}
@@ -36,14 +36,24 @@ pub record Outside : Type 1 where
 abbrev pub outside : Change Channels → Change BlockFile → Outside
 outside sink pages = record { sink = sink; pages = pages }
 
--- what a command sees: the files that it reads too
+-- lines that a command doesn't take, whatever they are
+abbrev pub untaken : Change (List (List ℕ))
+untaken = record { before = record { faults = no_failures; told = None }; after = record { faults = no_failures; told = None }; same = Unit {0} }
+
+-- what a command sees: the files that it reads too, and the lines that it takes
 pub record Around : Type 1 where
   pub files : Change Directory
   pub sink : Change Channels
   pub pages : Change BlockFile
+  pub lines : Change (List (List ℕ))
 
+-- one that takes no lines
 abbrev pub around : Change Directory → Change Channels → Change BlockFile → Around
-around files sink pages = record { files = files; sink = sink; pages = pages }
+around files sink pages = record { files = files; sink = sink; pages = pages; lines = untaken }
+
+-- and these lines beside it
+abbrev pub beside : Change (List (List ℕ)) → Around → Around
+beside lines seen = record seen { lines = lines }
 
 -- what its run sees
 abbrev pub outside_of : Around → Outside

@@ -3,7 +3,6 @@ use Rattle.std.specs.Prelude.{ℕ, suc, ◌≡◌, ◌+◌, ◌⊎◌, List, [],
 use Rattle.vax_outside.specs.Blocks.{BlockFile}
 use Rattle.vax_outside.specs.Channels.{Channels}
 use Rattle.vax_outside.specs.Directory.{Directory}
-use Rattle.vax_outside.specs.declared.traits.Chan.TheVariants as channel
 use Rattle.vax_flat.specs.Step.{Flat}
 use Rattle.vax_image.specs.declared.Image.{Image}
 use Rattle.vax_jobs.specs.declared.ends.JobsEnd.{JobsEnd}
@@ -24,7 +23,7 @@ use Rattle.vax_command.specs.Reading.{Reads, behind, first_of, given, option_of}
 use Rattle.vax_command.specs.Running.{LacksMemory}
 use Rattle.vax_command.specs.Status.{refusal_growth}
 use Rattle.vax_command.specs.declared.status.Status.{Status}
-use Rattle.vax_command.specs.declared.status.Status.TheVariants.{Done, Usage, Missing, Large, Refused, Link, Schedule, Image as BadImage, Turns, PageFault, ReadFault, WriteFault, NoMemory, Saved, Order, NotHalted, Unsuccessful, Unfinished, Told}
+use Rattle.vax_command.specs.declared.status.Status.TheVariants.{Done, Usage, Missing, Large, Refused, Link, Schedule, Image as BadImage, Turns, PageFault, ReadFault, WriteFault, NoMemory, Saved, Order, NotHalted, Unsuccessful, Unfinished, LineFault, Told}
 
 -- the files of their options: the input and the order
 abbrev pub jobs_files : JobsOptions → List Text
@@ -130,6 +129,7 @@ IsJobsAnswer failed (Told which) = ⊥
 IsJobsAnswer failed NotHalted = ⊥
 IsJobsAnswer failed Unsuccessful = ⊥
 IsJobsAnswer failed Unfinished = ⊥
+IsJobsAnswer failed LineFault = ⊥
 
 -- of what they wrote little is said where the page file doesn't tell its contents
 abbrev pub JobsWent : Option BlockFile → Outside → JobsSetup → Status → Channels → Type 0

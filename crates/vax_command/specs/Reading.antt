@@ -6,7 +6,7 @@ use Rattle.vax_outside.specs.declared.traits.FilesFault.TheVariants as faults
 use Rattle.vax_cli.specs.Words.{Options, Text}
 use Rattle.vax_command.specs.Around.{Change, HasFailed}
 use Rattle.vax_command.specs.declared.status.Status.{Status}
-use Rattle.vax_command.specs.declared.status.Status.TheVariants.{Done, Usage, Missing, Large, Refused, Link, Schedule, Image, Turns, PageFault, ReadFault, WriteFault, NoMemory, Saved, Order, NotHalted, Unsuccessful, Unfinished, Told}
+use Rattle.vax_command.specs.declared.status.Status.TheVariants.{Done, Usage, Missing, Large, Refused, Link, Schedule, Image, Turns, PageFault, ReadFault, WriteFault, NoMemory, Saved, Order, NotHalted, Unsuccessful, Unfinished, LineFault, Told}
 
 -- the most bytes of a file
 abbrev pub file_limit : ℕ
@@ -56,6 +56,7 @@ EndsBy rose fails (Told which) = ⊥
 EndsBy rose fails NotHalted = ⊥
 EndsBy rose fails Unsuccessful = ⊥
 EndsBy rose fails Unfinished = ⊥
+EndsBy rose fails LineFault = ⊥
 
 -- when reading these names ends the call
 abbrev pub ReadEndsFrom : Type 0 → Option Directory → List Text → Status → Type 0

@@ -5,7 +5,7 @@ use Rattle.vax_outside.specs.Channels.{Channels, nothing, only}
 use Rattle.vax_outside.specs.declared.traits.Chan.TheVariants.{Report}
 use Rattle.vax_command.specs.declared.status.Part.TheVariants as part
 use Rattle.vax_command.specs.declared.status.Status.{Status}
-use Rattle.vax_command.specs.declared.status.Status.TheVariants.{Done, Usage, Missing, Large, Refused, Link, Schedule, Image, Turns, PageFault, ReadFault, WriteFault, NoMemory, Saved, Order, NotHalted, Unsuccessful, Unfinished, Told}
+use Rattle.vax_command.specs.declared.status.Status.TheVariants.{Done, Usage, Missing, Large, Refused, Link, Schedule, Image, Turns, PageFault, ReadFault, WriteFault, NoMemory, Saved, Order, NotHalted, Unsuccessful, Unfinished, LineFault, Told}
 
 -- the exit status of the process
 abbrev pub code : Status → ℕ
@@ -30,22 +30,19 @@ code (Told part.Image) = 7
 code NotHalted = 15
 code Unsuccessful = 16
 code Unfinished = 17
+code LineFault = 18
 
 -- a label and a name, which end with a line feed
 abbrev pub named : List ℕ → List ℕ → List ℕ
 named label name = label ++ name ++ codes "\n"
 
--- the place of a fault in a source
+-- a fault and its place, behind what the place is
+unfoldable pub fault_at : List ℕ → ℕ → ℕ → List ℕ
+fault_at label place kind = label ++ decimal place ++ codes " fault " ++ decimal kind ++ codes "\n"
+
+-- a fault in a source
 unfoldable pub source_fault : ℕ → ℕ → ℕ → List ℕ
-source_fault file line kind = codes "vax: source " ++ decimal file ++ codes " line " ++ decimal line ++ codes " fault " ++ decimal kind ++ codes "\n"
-
--- the place of a fault in a schedule
-unfoldable pub schedule_fault : ℕ → ℕ → List ℕ
-schedule_fault line kind = codes "vax: schedule line " ++ decimal line ++ codes " fault " ++ decimal kind ++ codes "\n"
-
--- the place of a fault in an order
-unfoldable pub order_fault : ℕ → ℕ → List ℕ
-order_fault line kind = codes "vax: order line " ++ decimal line ++ codes " fault " ++ decimal kind ++ codes "\n"
+source_fault file line kind = fault_at (codes "vax: source " ++ decimal file ++ codes " line ") line kind
 
 -- kinds of what the linker finds that have a name
 abbrev pub is_named : ℕ → Bool
@@ -59,14 +56,6 @@ link_detail kind name place = if is_named kind then codes " " ++ name else (if k
 unfoldable pub link_fault : ℕ → List ℕ → ℕ → List ℕ
 link_fault kind name place = codes "vax: link fault " ++ decimal kind ++ link_detail kind name place ++ codes "\n"
 
--- the place of a fault in the file of an image
-unfoldable pub image_fault : ℕ → ℕ → List ℕ
-image_fault place kind = codes "vax: image place " ++ decimal place ++ codes " fault " ++ decimal kind ++ codes "\n"
-
--- the place of a fault in the file of a saved state
-unfoldable pub saved_fault : ℕ → ℕ → List ℕ
-saved_fault place kind = codes "vax: saved place " ++ decimal place ++ codes " fault " ++ decimal kind ++ codes "\n"
-
 -- the line that an answer before the run writes to Report, if it is a refusal
 abbrev pub refusal : Status → Option (List ℕ)
 refusal Done = None
@@ -75,19 +64,20 @@ refusal (Missing name) = Some (named (codes "vax: missing ") name)
 refusal (Large name) = Some (named (codes "vax: large ") name)
 refusal (Refused file line kind) = Some (source_fault file line kind)
 refusal (Link kind name place) = Some (link_fault kind name place)
-refusal (Schedule line kind) = Some (schedule_fault line kind)
-refusal (Image place kind) = Some (image_fault place kind)
+refusal (Schedule line kind) = Some (fault_at (codes "vax: schedule line ") line kind)
+refusal (Image place kind) = Some (fault_at (codes "vax: image place ") place kind)
 refusal Turns = None
 refusal PageFault = None
 refusal ReadFault = Some (codes "vax: read\n")
 refusal WriteFault = None
 refusal NoMemory = Some (codes "vax: memory\n")
-refusal (Saved place kind) = Some (saved_fault place kind)
-refusal (Order line kind) = Some (order_fault line kind)
+refusal (Saved place kind) = Some (fault_at (codes "vax: saved place ") place kind)
+refusal (Order line kind) = Some (fault_at (codes "vax: order line ") line kind)
 refusal (Told which) = None
 refusal NotHalted = None
 refusal Unsuccessful = None
 refusal Unfinished = None
+refusal LineFault = None
 
 -- what the channels grow by at a refusal
 abbrev pub growth_of : Option (List ℕ) → Channels

@@ -26,7 +26,7 @@ use Rattle.vax_command.specs.Around.{HasFailed, Outside}
 use Rattle.vax_command.specs.Pages.{HasRun, RunsOrLoses}
 use Rattle.vax_command.specs.Setup.{Setup, after_turns, before_turns, run_of}
 use Rattle.vax_command.specs.declared.status.Status.{Status}
-use Rattle.vax_command.specs.declared.status.Status.TheVariants.{Done, Usage, Missing, Large, Refused, Link, Schedule, Image, Turns, PageFault, ReadFault, WriteFault, NoMemory, Saved, Order, NotHalted, Unsuccessful, Unfinished, Told}
+use Rattle.vax_command.specs.declared.status.Status.TheVariants.{Done, Usage, Missing, Large, Refused, Link, Schedule, Image, Turns, PageFault, ReadFault, WriteFault, NoMemory, Saved, Order, NotHalted, Unsuccessful, Unfinished, LineFault, Told}
 
 abbrev pub limits_of : Options → Limits
 limits_of options = record { steps = options.steps; turns = options.turns; listed = options.recorded }
@@ -129,6 +129,7 @@ IsRunAnswer strict failed (Told which) = ⊥
 IsRunAnswer strict failed NotHalted = strict ≡ Off → ⊥
 IsRunAnswer strict failed Unsuccessful = strict ≡ Success
 IsRunAnswer strict failed Unfinished = ⊥
+IsRunAnswer strict failed LineFault = ⊥
 
 -- an answer of a run whose page file doesn't tell its contents; Record is empty where evictions aren't to be listed
 pub record IsUntold (setup : Setup) (outside : Outside) (status : Status) (grown : Channels) : Type 0 where

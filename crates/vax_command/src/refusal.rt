@@ -1,8 +1,8 @@
 //! The lines of refusals.
-ghost use Rattle.std.specs.Prelude.{◌≡◌, OnErr, OnOk, true, false, is_err};
+ghost use Rattle.std.specs.Prelude.{◌≡◌, ◌≤◌, OnErr, OnOk, true, false, is_err, length};
 ghost use Rattle.vax_outside.specs.Channels.{Grew, GrewByPrefix, only};
 ghost use Rattle.vax_outside.specs.Faults.{CountsFailure};
-ghost use Rattle.vax_command.specs.Status.{image_fault, is_named, link_fault, named, order_fault, refusal_growth, saved_fault, schedule_fault, source_fault};
+ghost use Rattle.vax_command.specs.Status.{fault_at, is_named, link_fault, named, refusal_growth, source_fault};
 ghost use Rattle.vax_command.specs.Around.{change};
 ghost use Rattle.vax_command.specs.Ends.{Ends};
 
@@ -24,6 +24,25 @@ fn put_named<K: Sink>(label: &[u8], name: &[u8], sink: &mut K) -> Result<(), Fai
     Ok(())
 }
 
+/// Writes a fault and its place, behind what the place is.
+#[tactic(auto, unfolding(crate::specs::Status::fault_at))]
+fn put_fault<K: Sink>(label: &[u8], place: u32, kind: u8, sink: &mut K) -> Result<(), Failed>
+    requires { length label.now ≤ 64 }
+    ensures ok { OnOk result (Grew (K.contents sink.old) (K.contents sink.new)
+        (only Chan.Report (fault_at label.now place kind))) }
+    ensures prefix { OnErr result (GrewByPrefix (K.contents sink.old) (K.contents sink.new)
+        (only Chan.Report (fault_at label.now place kind))) }
+    ensures counts { CountsFailure (is_err result) (K.faults sink.old) (K.faults sink.new) }
+{
+    let mut text = Text::new();
+    text.push(label);
+    text.push_decimal(place as u64);
+    text.push(b" fault ");
+    text.push_decimal(kind as u64);
+    text.push(b"\n");
+    put_all(sink, Chan::Report, text.as_slice())
+}
+
 /// Writes the place of a fault in a source.
 #[tactic(auto, unfolding(crate::specs::Status::source_fault))]
 fn put_source_fault<K: Sink>(file: u8, line: u32, kind: u8, sink: &mut K) -> Result<(), Failed>
@@ -33,51 +52,11 @@ fn put_source_fault<K: Sink>(file: u8, line: u32, kind: u8, sink: &mut K) -> Res
         (only Chan.Report (source_fault file line kind))) }
     ensures counts { CountsFailure (is_err result) (K.faults sink.old) (K.faults sink.new) }
 {
-    let mut text = Text::new();
-    text.push(b"vax: source ");
-    text.push_decimal(file as u64);
-    text.push(b" line ");
-    text.push_decimal(line as u64);
-    text.push(b" fault ");
-    text.push_decimal(kind as u64);
-    text.push(b"\n");
-    put_all(sink, Chan::Report, text.as_slice())
-}
-
-/// Writes the place of a fault in a schedule.
-#[tactic(auto, unfolding(crate::specs::Status::schedule_fault))]
-fn put_schedule_fault<K: Sink>(line: u32, kind: u8, sink: &mut K) -> Result<(), Failed>
-    ensures ok { OnOk result (Grew (K.contents sink.old) (K.contents sink.new)
-        (only Chan.Report (schedule_fault line kind))) }
-    ensures prefix { OnErr result (GrewByPrefix (K.contents sink.old) (K.contents sink.new)
-        (only Chan.Report (schedule_fault line kind))) }
-    ensures counts { CountsFailure (is_err result) (K.faults sink.old) (K.faults sink.new) }
-{
-    let mut text = Text::new();
-    text.push(b"vax: schedule line ");
-    text.push_decimal(line as u64);
-    text.push(b" fault ");
-    text.push_decimal(kind as u64);
-    text.push(b"\n");
-    put_all(sink, Chan::Report, text.as_slice())
-}
-
-/// Writes the place of a fault in an order.
-#[tactic(auto, unfolding(crate::specs::Status::order_fault))]
-fn put_order_fault<K: Sink>(line: u32, kind: u8, sink: &mut K) -> Result<(), Failed>
-    ensures ok { OnOk result (Grew (K.contents sink.old) (K.contents sink.new)
-        (only Chan.Report (order_fault line kind))) }
-    ensures prefix { OnErr result (GrewByPrefix (K.contents sink.old) (K.contents sink.new)
-        (only Chan.Report (order_fault line kind))) }
-    ensures counts { CountsFailure (is_err result) (K.faults sink.old) (K.faults sink.new) }
-{
-    let mut text = Text::new();
-    text.push(b"vax: order line ");
-    text.push_decimal(line as u64);
-    text.push(b" fault ");
-    text.push_decimal(kind as u64);
-    text.push(b"\n");
-    put_all(sink, Chan::Report, text.as_slice())
+    let mut label = Text::new();
+    label.push(b"vax: source ");
+    label.push_decimal(file as u64);
+    label.push(b" line ");
+    put_fault(label.as_slice(), line, kind, sink)
 }
 
 /// Writes what the linker found without a name: behind kind 5 stands an address.
@@ -133,42 +112,6 @@ fn put_link_fault<K: Sink>(kind: u8, name: &[u8], place: u32, sink: &mut K) -> R
     }
 }
 
-/// Writes the place of a fault in an image's file.
-#[tactic(auto, unfolding(crate::specs::Status::image_fault))]
-fn put_image_fault<K: Sink>(place: u32, kind: u8, sink: &mut K) -> Result<(), Failed>
-    ensures ok { OnOk result (Grew (K.contents sink.old) (K.contents sink.new)
-        (only Chan.Report (image_fault place kind))) }
-    ensures prefix { OnErr result (GrewByPrefix (K.contents sink.old) (K.contents sink.new)
-        (only Chan.Report (image_fault place kind))) }
-    ensures counts { CountsFailure (is_err result) (K.faults sink.old) (K.faults sink.new) }
-{
-    let mut text = Text::new();
-    text.push(b"vax: image place ");
-    text.push_decimal(place as u64);
-    text.push(b" fault ");
-    text.push_decimal(kind as u64);
-    text.push(b"\n");
-    put_all(sink, Chan::Report, text.as_slice())
-}
-
-/// Writes the place of a fault in the file of a saved state.
-#[tactic(auto, unfolding(crate::specs::Status::saved_fault))]
-fn put_saved_fault<K: Sink>(place: u32, kind: u8, sink: &mut K) -> Result<(), Failed>
-    ensures ok { OnOk result (Grew (K.contents sink.old) (K.contents sink.new)
-        (only Chan.Report (saved_fault place kind))) }
-    ensures prefix { OnErr result (GrewByPrefix (K.contents sink.old) (K.contents sink.new)
-        (only Chan.Report (saved_fault place kind))) }
-    ensures counts { CountsFailure (is_err result) (K.faults sink.old) (K.faults sink.new) }
-{
-    let mut text = Text::new();
-    text.push(b"vax: saved place ");
-    text.push_decimal(place as u64);
-    text.push(b" fault ");
-    text.push_decimal(kind as u64);
-    text.push(b"\n");
-    put_all(sink, Chan::Report, text.as_slice())
-}
-
 /// Writes the line of a refusal; other answers have none.
 fn put_refusal<K: Sink>(status: &Status, sink: &mut K) -> Result<(), Failed>
     ensures ok { OnOk result (Grew (K.contents sink.old) (K.contents sink.new)
@@ -183,10 +126,10 @@ fn put_refusal<K: Sink>(status: &Status, sink: &mut K) -> Result<(), Failed>
         Status::Large(name) => put_named(b"vax: large ", name.as_bytes(), sink),
         Status::Refused { file, line, kind } => put_source_fault(*file, *line, *kind, sink),
         Status::Link { kind, name, place } => put_link_fault(*kind, name.as_slice(), *place, sink),
-        Status::Schedule { line, kind } => put_schedule_fault(*line, *kind, sink),
-        Status::Order { line, kind } => put_order_fault(*line, *kind, sink),
-        Status::Image { place, kind } => put_image_fault(*place, *kind, sink),
-        Status::Saved { place, kind } => put_saved_fault(*place, *kind, sink),
+        Status::Schedule { line, kind } => put_fault(b"vax: schedule line ", *line, *kind, sink),
+        Status::Order { line, kind } => put_fault(b"vax: order line ", *line, *kind, sink),
+        Status::Image { place, kind } => put_fault(b"vax: image place ", *place, *kind, sink),
+        Status::Saved { place, kind } => put_fault(b"vax: saved place ", *place, *kind, sink),
         Status::ReadFault => put_all(sink, Chan::Report, b"vax: read\n"),
         Status::NoMemory => put_all(sink, Chan::Report, b"vax: memory\n"),
         Status::Done
@@ -196,7 +139,8 @@ fn put_refusal<K: Sink>(status: &Status, sink: &mut K) -> Result<(), Failed>
         | Status::Told(_)
         | Status::NotHalted
         | Status::Unsuccessful
-        | Status::Unfinished => Ok(()),
+        | Status::Unfinished
+        | Status::LineFault => Ok(()),
     }
 }
 

@@ -56,6 +56,8 @@ pub enum Status {
     Unsuccessful,
     /// Memory was refused behind some of the vectors that were asked for.
     Unfinished,
+    /// A line of a session couldn't be read.
+    LineFault,
 }
 
 impl Status {
@@ -87,6 +89,7 @@ impl Status {
             Status::NotHalted => 15,
             Status::Unsuccessful => 16,
             Status::Unfinished => 17,
+            Status::LineFault => 18,
         }
     }
 }

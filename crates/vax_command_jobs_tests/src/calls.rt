@@ -1,6 +1,7 @@
 //! Whole calls over objects in memory.
 use std::alloc::Global;
 use std::test::Fail;
+use vax_input::MemLines;
 use vax_outside::{Chan, MemFiles, MemPages, MemSink};
 use vax_top::vax_main;
 
@@ -41,7 +42,15 @@ pub(crate) fn call_over(
     let mut files = MemFiles::new(files, Vec::new(alloc));
     let mut sink = MemSink::new(alloc, [100_000; 3], 4_096, Vec::new(alloc))?;
     let mut pages = MemPages::new(alloc, blocks, 100_000, Vec::new(alloc))?;
-    let status = vax_main(alloc, all.as_slice(), &mut files, &mut sink, &mut pages);
+    let mut lines = MemLines::new(b"");
+    let status = vax_main(
+        alloc,
+        all.as_slice(),
+        &mut files,
+        &mut lines,
+        &mut sink,
+        &mut pages,
+    );
     Ok(Left {
         code: status.code(),
         sink,

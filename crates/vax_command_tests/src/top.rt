@@ -2,6 +2,7 @@
 use std::alloc::{AllocError, Global};
 use std::process::Abort;
 use std::test::Fail;
+use vax_input::MemLines;
 use vax_outside::{Chan, Fail as Failing, MemFiles, MemPages, MemSink};
 use vax_top::vax_main;
 
@@ -128,7 +129,15 @@ fn call_failing(rt: &HostRuntime, line: &str, fails: Failures) -> Result<Left, F
     let mut files = MemFiles::new(held, listed(alloc, fails.read)?);
     let mut sink = MemSink::new(alloc, [1000, 1000, 1000], 7, listed(alloc, fails.write)?)?;
     let mut pages = MemPages::new(alloc, 200, 100, listed(alloc, fails.page)?)?;
-    let status = vax_main(alloc, all.as_slice(), &mut files, &mut sink, &mut pages);
+    let mut lines = MemLines::new(b"");
+    let status = vax_main(
+        alloc,
+        all.as_slice(),
+        &mut files,
+        &mut lines,
+        &mut sink,
+        &mut pages,
+    );
     Ok(Left {
         code: status.code(),
         sink,

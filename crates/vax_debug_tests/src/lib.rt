@@ -1,10 +1,12 @@
-//! Tests of the debugger: its words, its names, its steps and acts, and what it shows.
+//! Tests of the debugger: its words, its names, its steps and acts, what it shows, and its sessions.
 #![tactic(auto)]
 
 #[cfg(test)]
 mod acts;
 #[cfg(test)]
 mod names;
+#[cfg(test)]
+mod sessions;
 #[cfg(test)]
 mod steps;
 #[cfg(test)]

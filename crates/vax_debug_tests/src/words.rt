@@ -44,6 +44,8 @@ fn takes_unique_beginnings(rt: HostRuntime) -> Result<(), Fail> {
     assert!(rt; matches!(read_line(b"ov"), Line::Request(Request::Over)));
     assert!(rt; matches!(read_line(b"show br"), Line::Request(Request::Show)));
     assert!(rt; matches!(read_line(b"cl"), Line::Request(Request::Clear(None))));
+    assert!(rt; matches!(read_line(b"p"), Line::Request(Request::Pages)));
+    assert!(rt; matches!(read_line(b"T"), Line::Request(Request::Turn)));
     assert!(rt; matches!(read_line(b"ev all"), Line::Request(Request::EvictAll)));
     assert!(rt;
         matches!(
@@ -64,7 +66,8 @@ fn tells_what_is_refused(rt: HostRuntime) -> Result<(), Fail> {
     assert!(rt; refused(b"st") == Some(Refusal::Several));
     assert!(rt; refused(b"e 200") == Some(Refusal::Several));
     assert!(rt; refused(b"gone") == Some(Refusal::Unknown));
-    assert!(rt; refused(b"dep psl 0") == Some(Refusal::Usage(Command::Deposit)));
+    assert!(rt; refused(b"dep psl") == Some(Refusal::Usage(Command::Deposit)));
+    assert!(rt; refused(b"pages 1") == Some(Refusal::Usage(Command::Pages)));
     assert!(rt; refused(b"/b 200") == Some(Refusal::Unknown));
     assert!(rt; refused(b"go 1") == Some(Refusal::Usage(Command::Go)));
     assert!(rt; refused(b"go/b") == Some(Refusal::Usage(Command::Go)));
@@ -168,7 +171,7 @@ fn count_of(text: &[u8]) -> usize {
 
 #[test]
 fn tells_what_would_be_understood(rt: HostRuntime) -> Result<(), Fail> {
-    assert!(rt; count_of(b"frob") == 17);
+    assert!(rt; count_of(b"frob") == 19);
     assert!(rt; count_of(b"s") == 3);
     assert!(rt; count_of(b"st") == 2);
     assert!(rt; count_of(b"go 1") == 1);

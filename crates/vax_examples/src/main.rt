@@ -9,6 +9,7 @@ mod setup;
 use crate::rows::show_rows;
 use std::alloc::{AllocError, Global};
 use std::fs;
+use vax_input::HostLines;
 use vax_outside::{HostFiles, HostPages, HostSink};
 use vax_top::vax_main;
 
@@ -16,7 +17,7 @@ use vax_top::vax_main;
 const CALLS: &str = "calls.txt";
 
 /// The files of rows.
-const ROWS: [&str; 14] = [
+const ROWS: [&str; 15] = [
     "rows/pages.txt",
     "rows/instructions.txt",
     "rows/modes.txt",
@@ -26,6 +27,7 @@ const ROWS: [&str; 14] = [
     "rows/images.txt",
     "rows/executive.txt",
     "rows/console.txt",
+    "rows/debug.txt",
     "rows/traces.txt",
     "rows/jobs.txt",
     "rows/check.txt",
@@ -48,12 +50,14 @@ fn show(rt: HostRuntime, line: &str) -> anyhow::Result<()> {
     println!(rt; "$ {line}")?;
     let words = words_of(rt.alloc(), line)?;
     let mut files = HostFiles::new(rt);
+    let mut lines = HostLines::new(rt.stdin());
     let mut sink = HostSink::new(rt.stdout(), rt.stdout(), rt);
     let mut pages = HostPages::new(rt);
     let status = vax_main(
         rt.alloc(),
         words.as_slice(),
         &mut files,
+        &mut lines,
         &mut sink,
         &mut pages,
     );

@@ -4,7 +4,8 @@
 //! is given another one. `cut` takes the last end of line off it, and `blanks N` appends N blanks. `fail OBJECT read N` or `fail OBJECT write N` lets the
 //! Nth such call of `files`, `channels` or `pages` fail, and `any blocks` leaves the writes of blocks uncounted, both in the next call alone.
 //! `adds N` lets the page file add N to the first byte of each block that it gives in the next call, and
-//! `bites N` lets the channels take N bytes at a time in the next call, in place of 7. `$ vax WORDS` makes the call.
+//! `bites N` lets the channels take N bytes at a time in the next call, in place of 7. `types NAME` lets the lines of a file come from standard input in the next
+//! call. `$ vax WORDS` makes the call.
 //!
 //! `series fail OBJECT N` makes the next call with the first, the second, .. and the Nth call of the object failing, until the failure is met no more;
 //! `series cut NAME` with the file cut to each of its lengths, and `series turn NAME` with each of its bytes changed to 255 less its value. What these calls
@@ -16,6 +17,7 @@ use crate::words_of;
 use anyhow::{Context, Result, bail};
 use std::alloc::Global;
 use std::io::Print;
+use vax_input::MemLines;
 use vax_outside::{Chan, MemSink};
 use vax_top::vax_main;
 
@@ -90,7 +92,15 @@ pub(crate) fn call(
 ) -> Result<Left> {
     let (mut files, mut sink, mut pages) = setup.objects(change)?;
     let words = words_of(alloc, line)?;
-    let status = vax_main(alloc, words.as_slice(), &mut files, &mut sink, &mut pages);
+    let mut lines = MemLines::new(setup.typed());
+    let status = vax_main(
+        alloc,
+        words.as_slice(),
+        &mut files,
+        &mut lines,
+        &mut sink,
+        &mut pages,
+    );
     Ok(Left {
         status: status.code(),
         sink,
@@ -124,6 +134,8 @@ fn prepare(setup: &mut Setup, line: &str) -> Result<Form> {
         setup.bites = count.parse::<u32>().context("no count")?;
     } else if let Some(number) = line.strip_prefix("adds ") {
         setup.added = number.parse::<u8>().context("no number")?;
+    } else if let Some(name) = line.strip_prefix("types ") {
+        setup.types(name)?;
     } else if let Some(said) = line.strip_prefix("series ") {
         setup.begin_series(said)?;
     } else if line == "cut" {

@@ -5,7 +5,8 @@ use std::alloc::{AllocError, Global};
 use vax_outside::{Fail, MemFiles, MemPages, MemSink};
 
 /// The files that there are; and for the next call of the program, the calls that are to fail, whether its block writes are counted, how many bytes a
-/// channel takes at a time, what the page file adds to the first byte of a block, and a series, if one was said.
+/// channel takes at a time, what the page file adds to the first byte of a block, the file whose lines come from standard input, and a series, if
+/// one was said.
 #[derive(Drop)]
 pub(crate) struct Setup {
     alloc: Global,
@@ -14,6 +15,7 @@ pub(crate) struct Setup {
     pub(crate) has_any_blocks: bool,
     pub(crate) bites: u32,
     pub(crate) added: u8,
+    typed: String,
     pub(crate) series: Option<Series>,
 }
 
@@ -150,6 +152,7 @@ impl Setup {
             has_any_blocks: false,
             bites: BITES,
             added: 0,
+            typed: String::new(alloc),
             series: None,
         }
     }
@@ -160,6 +163,23 @@ impl Setup {
         self.has_any_blocks = false;
         self.bites = BITES;
         self.added = 0;
+        self.typed = String::new(self.alloc);
+    }
+
+    /// Says whose lines come from standard input in the next call.
+    pub(crate) fn types(&mut self, name: &str) -> Result<()> {
+        self.typed = String::from_str(self.alloc, name)?;
+        Ok(())
+    }
+
+    /// The bytes that come from standard input: those of a file, none where none was said.
+    pub(crate) fn typed(&self) -> &[u8] {
+        for file in &self.files {
+            if file.0.as_str() == self.typed.as_str() {
+                return &file.1;
+            }
+        }
+        &[]
     }
 
     /// Says a series for the next call, as `fail pages 100` or `cut A` does.

@@ -1,6 +1,7 @@
 //! Whole calls over objects in memory.
 use std::alloc::{AllocError, Global};
 use std::test::Fail;
+use vax_input::MemLines;
 use vax_outside::{Chan, Fail as Failing, MemFiles, MemPages, MemSink};
 use vax_top::vax_main;
 
@@ -86,7 +87,15 @@ fn call_with(
     let mut files = MemFiles::new(held, Vec::new(alloc));
     let mut sink = MemSink::new(alloc, [1000, 1000, 100_000], 1000, Vec::new(alloc))?;
     let mut pages = MemPages::new(alloc, 400, 1000, listed(alloc, page)?)?;
-    let status = vax_main(alloc, all.as_slice(), &mut files, &mut sink, &mut pages);
+    let mut lines = MemLines::new(b"");
+    let status = vax_main(
+        alloc,
+        all.as_slice(),
+        &mut files,
+        &mut lines,
+        &mut sink,
+        &mut pages,
+    );
     Ok(Left {
         code: status.code(),
         sink,

@@ -1,5 +1,5 @@
 -- What is told of a program, and what `check` comes to.
-use Rattle.std.proofs.Common.{◌≡◌, ◌≤◌, ◌+◌, ◌==◌, true, false, ℕ, inl, inr, List, [], ◌∷◌, ◌++◌, append-nil, drop, length, take, Option, None, Some, Result, Ok, Err, ap, arith, refl, subst, sym, ◌∙◌}
+use Rattle.std.proofs.Common.{◌≡◌, ◌≤◌, ◌+◌, ◌==◌, Bool, true, false, ℕ, inl, inr, List, [], ◌∷◌, ◌++◌, append-nil, drop, length, take, Option, None, Some, Result, Ok, Err, ap, arith, refl, subst, sym, ◌∙◌}
 use Rattle.std.specs.Prelude.{suc}
 use Rattle.std.proofs.lemmas.Bool.Decides.{nat_tests}
 use Rattle.std.proofs.lemmas.List.{drop-map, length-append, length-map, map-append, take-map}
@@ -23,7 +23,7 @@ use Rattle.vax_outside.specs.Channels.{Channels, only}
 use Rattle.vax_outside.specs.Directory.{Directory}
 use Rattle.vax_outside.specs.declared.traits.Chan.TheVariants.{Out}
 use Rattle.vax_program.specs.Program.{Refusal}
-use Rattle.vax_top.specs.Checked.{IsChecking, answer_of, checked_names, found_in, found_of, refusal_of}
+use Rattle.vax_top.specs.Checked.{IsChecking, answer_of, checked_names, found_in, found_of, is_bare, refusal_of}
 use Rattle.vax_top.specs.Loaded.{image_from, user_loaded}
 use Rattle.vax_top.specs.Top.{Carries, CommandComes, base_for}
 
@@ -73,8 +73,8 @@ module _ (dialect : Dialect) (base : Base) (files : List Text) where
   found_under system text e = sym (ap (λ (all : List Text). found_in dialect base files all) e)
 
 -- how the call ends that tells it
-module _ (sink : Change Channels) (dialect : Dialect) (found : Option Refusal) (names files : List Text) (result : Status) where
-  pub was_told : (text shown : Text) (answer : Status) → Tells dialect names files found text → answer ≡ answer_of found → shown ≡ text → Ends sink answer (only Out shown) result → EndsSo sink (IsChecking untouched dialect found names files) result
+module _ (sink : Change Channels) (dialect : Dialect) (bare : Bool) (found : Option Refusal) (names files : List Text) (result : Status) where
+  pub was_told : (text shown : Text) (answer : Status) → Tells dialect bare names files found text → answer ≡ answer_of found → shown ≡ text → Ends sink answer (only Out shown) result → EndsSo sink (IsChecking untouched dialect bare found names files) result
   was_told text shown answer t ea es e = record {
     meant = answer;
     grown = only Out shown;
@@ -82,11 +82,11 @@ module _ (sink : Change Channels) (dialect : Dialect) (found : Option Refusal) (
     ends = e;
   }
 
-  pub not_told : Ends sink NoMemory (refusal_growth NoMemory) result → EndsSo sink (IsChecking untouched dialect found names files) result
+  pub not_told : Ends sink NoMemory (refusal_growth NoMemory) result → EndsSo sink (IsChecking untouched dialect bare found names files) result
   not_told e = record { meant = NoMemory; grown = refusal_growth NoMemory; so = inl (refl, refl, tt); ends = e }
 
 -- the same of files of which so many are the program's
-module _ (sink : Change Channels) (dialect : Dialect) (base : Base) (count : ℕ) (names : List Text) (files own system : List (Vec ℕ)) (result : Status) where
+module _ (sink : Change Channels) (dialect : Dialect) (bare : Bool) (base : Base) (count : ℕ) (names : List Text) (files own system : List (Vec ℕ)) (result : Status) where
   found_apart : own ≡ take count files → system ≡ drop count files → found_in dialect base (texts own) (texts system) ≡ found_in dialect base (take count (texts files)) (drop count (texts files))
   found_apart eo es =
       ap (λ (list : List (Vec ℕ)). found_in dialect base (texts list) (texts system)) eo
@@ -94,31 +94,32 @@ module _ (sink : Change Channels) (dialect : Dialect) (base : Base) (count : ℕ
       ∙ ap (λ (list : List Text). found_in dialect base list (texts (drop count files))) (sym (take-map (λ (v : Vec ℕ). v.items) count files))
       ∙ ap (λ (list : List Text). found_in dialect base (take count (texts files)) list) (sym (drop-map (λ (v : Vec ℕ). v.items) count files))
 
-  pub apart_told : (found : Option Refusal) → own ≡ take count files → system ≡ drop count files → found ≡ found_in dialect base (texts own) (texts system) → EndsSo sink (IsChecking untouched dialect found names (texts files)) result
-      → EndsSo sink (IsChecking untouched dialect (found_in dialect base (take count (texts files)) (drop count (texts files))) names (texts files)) result
-  apart_told found eo es ef e = subst (λ (o : Option Refusal). EndsSo sink (IsChecking untouched dialect o names (texts files)) result) (ef ∙ found_apart eo es) e
+  pub apart_told : (found : Option Refusal) → own ≡ take count files → system ≡ drop count files → found ≡ found_in dialect base (texts own) (texts system) → EndsSo sink (IsChecking untouched dialect bare found names (texts files)) result
+      → EndsSo sink (IsChecking untouched dialect bare (found_in dialect base (take count (texts files)) (drop count (texts files))) names (texts files)) result
+  apart_told found eo es ef e = subst (λ (o : Option Refusal). EndsSo sink (IsChecking untouched dialect bare o names (texts files)) result) (ef ∙ found_apart eo es) e
 
 -- the same of what was read, by the names of a program's files and all names
 module _ (sink : Change Channels) (names : List (Bor Text)) (target : Target) (all files : List Text) (result : Status) where
-  abbrev Telling : Base → ℕ → List Text → List Text → Type 0
-  Telling base count shown read = EndsSo sink (IsChecking untouched target.dialect (found_in target.dialect base (take count read) (drop count read)) shown read) result
+  abbrev Telling : Bool → Base → ℕ → List Text → List Text → Type 0
+  Telling bare base count shown read = EndsSo sink (IsChecking untouched target.dialect bare (found_in target.dialect base (take count read) (drop count read)) shown read) result
 
-  pub all_told : (base : Base) (count : ℕ) (shown read : List Text) → base ≡ base_for target.base → count ≡ length names → shown ≡ all → read ≡ files → Telling base count shown read
-      → EndsSo sink (IsChecking untouched target.dialect (found_of target.dialect (base_for target.base) (names_of names) files) all files) result
-  all_told built count shown read eb ec es er e =
-      subst (λ (n : ℕ). Telling (base_for target.base) n all files) (ec ∙ sym (length-map names (λ (n : Bor Text). n.now)))
-      (subst (λ (list : List Text). Telling (base_for target.base) count all list) er
-      (subst (λ (list : List Text). Telling (base_for target.base) count list read) es
-      (subst (λ (b : Base). Telling b count shown read) eb e)))
+  pub all_told : (bare : Bool) (base : Base) (count : ℕ) (shown read : List Text) → bare ≡ is_bare base → base ≡ base_for target.base → count ≡ length names → shown ≡ all → read ≡ files → Telling bare base count shown read
+      → EndsSo sink (IsChecking untouched target.dialect (is_bare (base_for target.base)) (found_of target.dialect (base_for target.base) (names_of names) files) all files) result
+  all_told bare built count shown read eh eb ec es er e =
+      subst (λ (n : ℕ). Telling (is_bare (base_for target.base)) (base_for target.base) n all files) (ec ∙ sym (length-map names (λ (n : Bor Text). n.now)))
+      (subst (λ (list : List Text). Telling (is_bare (base_for target.base)) (base_for target.base) count all list) er
+      (subst (λ (list : List Text). Telling (is_bare (base_for target.base)) (base_for target.base) count list read) es
+      (subst (λ (b : Base). Telling (is_bare b) b count shown read) eb
+      (subst (λ (h : Bool). Telling h built count shown read) eh e))))
 
 -- a program was checked
 module _ (seen : Around) (names : List Text) (target : Target) (system : Option Text) (result : Status) where
-  check_comes : (files : List Text) (status : Status) (grown : Channels) → Reads seen.files.before.told (checked_names names system) (Ok files) → IsChecking seen.pages target.dialect (found_of target.dialect (base_for target.base) names files) (checked_names names system) files status grown
+  check_comes : (files : List Text) (status : Status) (grown : Channels) → Reads seen.files.before.told (checked_names names system) (Ok files) → IsChecking seen.pages target.dialect (is_bare (base_for target.base)) (found_of target.dialect (base_for target.base) names files) (checked_names names system) files status grown
       → CommandComes seen (check names target system) status grown
   check_comes files status grown h (inl e) = let is : status ≡ NoMemory = e.0 in rw is (inl (tt, e.1, e.2))
   check_comes files status grown h (inr d) = inr (files, h, d)
 
-  pub check_carries : (files : List Text) → Reads seen.files.before.told (checked_names names system) (Ok files) → EndsSo seen.sink (IsChecking seen.pages target.dialect (found_of target.dialect (base_for target.base) names files) (checked_names names system) files) result
+  pub check_carries : (files : List Text) → Reads seen.files.before.told (checked_names names system) (Ok files) → EndsSo seen.sink (IsChecking seen.pages target.dialect (is_bare (base_for target.base)) (found_of target.dialect (base_for target.base) names files) (checked_names names system) files) result
       → Carries seen (check names target system) result
   check_carries files h b = record { meant = b.meant; grown = b.grown; comes = check_comes files b.meant b.grown h b.so; ends = b.ends }
 

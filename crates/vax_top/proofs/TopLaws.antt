@@ -1,5 +1,5 @@
 -- What a command comes to, from what its parts did, and which answers that allows.
-use Rattle.std.proofs.Common.{◌≡◌, ◌⊎◌, ◌++◌, inl, inr, true, List, [], ◌∷◌, length, Option, None, Some, is_some, IfSome, MatchOption, Result, Ok, Err, refl, sym, ap, subst, ◌∙◌}
+use Rattle.std.proofs.Common.{◌≡◌, ◌⊎◌, ◌++◌, inl, inr, Bool, true, List, [], ◌∷◌, length, Option, None, Some, is_some, IfSome, MatchOption, Result, Ok, Err, refl, sym, ap, subst, ◌∙◌}
 use Rattle.std.specs.Option.{option_map_or}
 use Rattle.vax_outside.specs.Blocks.{BlockFile}
 use Rattle.vax_outside.specs.Channels.{Channels, Grew, only}
@@ -7,12 +7,13 @@ use Rattle.vax_outside.specs.declared.traits.Chan.TheVariants as channel
 use Rattle.vax_outside.specs.Directory.{Directory}
 use Rattle.vax_outside.specs.declared.traits.FilesFault.TheVariants as faults
 use Rattle.vax_space.specs.declared.Area.{Area}
+use Rattle.vax_image.specs.Start.{Start}
 use Rattle.vax_image.specs.declared.Image.{Image}
 use Rattle.vax_asm_listing.specs.Listed as listed
 use Rattle.vax_flat.specs.Parts.{machine_at}
 use Rattle.vax_machine.specs.Paged.{Why, ByEnding, BySteps, ByTurns}
 use Rattle.vax_program.specs.Program.{Refusal, Source, Link as FromLinker, InImage}
-use Rattle.vax_cli.specs.Words.{Text, Options, Said, bare, run, build, list, listing, check, console, trace, save, resume, jobs, work, vectors, about, command_of}
+use Rattle.vax_cli.specs.Words.{Text, Options, Said, bare, run, build, list, listing, check, console, debug, trace, save, resume, jobs, work, vectors, about, command_of}
 use Rattle.vax_cli.specs.declared.command.Base as words_base
 use Rattle.vax_cli.specs.declared.command.Format.{Format}
 use Rattle.vax_cli.specs.declared.command.Strictness.{Strictness}
@@ -24,7 +25,7 @@ use Rattle.vax_command.specs.Around.{Around, Change, HasFailed, Outside, around,
 use Rattle.vax_command.specs.Ends.{Ends, EndsSo}
 use Rattle.vax_command.specs.Loaded.{Loaded}
 use Rattle.vax_command.specs.Running.{IsFaulty, IsRunning, LacksMemory, Ran, RunsSo}
-use Rattle.vax_top.specs.Checked.{IsTold, checked_names, found_of}
+use Rattle.vax_top.specs.Checked.{IsTold, checked_names, found_of, is_bare}
 use Rattle.vax_top.specs.Loaded.{IsRefused, image_from, refused_as, sources_image}
 use Rattle.vax_command.specs.Course.{Course, WentOnFrom}
 use Rattle.vax_command.specs.Reading.{HasTexts, Reads, Texts, of_options, texts_of}
@@ -33,7 +34,7 @@ use Rattle.vax_command.specs.Saving.{HasSavedRun, IsSaving, SaveWentFrom, SavesS
 use Rattle.vax_command.specs.Wanting.{HasSaved, ReadsWanted, Wanted, WantedEnds, plain}
 use Rattle.vax_command.specs.Status.{refusal, refusal_growth}
 use Rattle.vax_top.specs.Resumed.{ResumeDoes}
-use Rattle.vax_top.specs.Top.{Carries, Comes, CommandComes, Does, ImageDoes, IsAbout, IsFile, IsListing, IsSourceListing, IsRunOf, IsSessionOf, IsWriting, IsSavedOf, RanOf, RunDoes, SaveDoes, SessionDoes, TogetherDo, TraceDoes, base_for, reads, reads_of, run_of, saved_of, session_of, session_programs, wanted_of}
+use Rattle.vax_top.specs.Top.{Carries, Comes, CommandComes, DebugDoes, Does, ImageDoes, IsAbout, IsDebugOf, IsFile, IsListing, IsSourceListing, IsRunOf, IsSessionOf, IsWriting, IsSavedOf, RanOf, RunDoes, SaveDoes, SessionDoes, TogetherDo, TraceDoes, base_for, reads, reads_of, run_of, saved_of, session_of, session_programs, wanted_of}
 use Rattle.vax_top.specs.Vectors.{VectorsDo}
 use Rattle.vax_top.proofs.VectorLaws.{vectors_kept}
 use Rattle.vax_cli.specs.declared.vectors.VectorRequest.{VectorRequest}
@@ -43,7 +44,7 @@ use Rattle.vax_command.specs.Tracing as traced_run
 use Rattle.vax_cli.specs.Tracing.{Tracing}
 use Rattle.vax_command.specs.Went.{IsCut, IsRunAnswer, IsUnread, WentFrom}
 use Rattle.vax_command.specs.declared.status.Status.{Status}
-use Rattle.vax_command.specs.declared.status.Status.TheVariants.{Done, Usage, Missing, Large, Refused, Link, Schedule, Image as BadImage, Turns, PageFault, ReadFault, WriteFault, NoMemory, Saved, Order, NotHalted, Unsuccessful, Unfinished, Told}
+use Rattle.vax_command.specs.declared.status.Status.TheVariants.{Done, Usage, Missing, Large, Refused, Link, Schedule, Image as BadImage, Turns, PageFault, ReadFault, WriteFault, NoMemory, Saved, Order, NotHalted, Unsuccessful, Unfinished, LineFault, Told}
 use Rattle.vax_cli.specs.Jobs.{JobsOptions}
 use Rattle.vax_command.specs.Jobs.{IsJobsAnswer, JobsRunSo, JobsSetup, JobsTexts, JobsWent, Users, jobs_texts_of, order_text}
 use Rattle.vax_top.specs.Together.{together_loaded}
@@ -54,6 +55,13 @@ use Rattle.vax_word.specs.declared.Core.{Core}
 use Rattle.vax_top.proofs.SourceLaws.{sources_built}
 use Rattle.vax_command.specs.Holding.{Held, HeldSo, IsHolding}
 use Rattle.vax_command.specs.SessionWent.{Opening, SessionFrom}
+use Rattle.vax_debug_names.specs.declared.Symbol.{Symbol}
+use Rattle.vax_debug_symbols.specs.Symbols.{AreSymbols}
+use Rattle.vax_command_debug.specs.SessionEnd.{SessionEnd}
+use Rattle.vax_command_debug.specs.SessionEnd.TheVariants as end
+use Rattle.vax_command_debug.specs.Course as debug_course
+use Rattle.vax_command_debug.specs.Course.{Causes}
+use Rattle.vax_command_debug.specs.Debugging.{Debugged, DebugsSo, Given, IsDebugging, given, terms_of}
 
 -- what running the programs of files came to
 
@@ -86,6 +94,24 @@ module _ (outside : Outside) (loaded : Result Loaded Refusal) (texts : Texts) (o
   pub session_held : (program : Loaded) → loaded ≡ Ok program → Held outside program texts.input texts.schedule texts.script options result → HeldOf outside loaded texts options result
   session_held program is r = record { meant = r.meant; grown = r.grown; so = as_held program r.meant r.grown is r.so; ends = r.ends }
 
+-- what a session with a debugger came to
+
+abbrev pub DebuggedOf : Outside → Change (List Text) → Result Loaded Refusal → (AreNamed : List Symbol → Type 0) → Texts → Bool → Options → Status → Type 0
+DebuggedOf outside lines loaded AreNamed texts prompts options result = EndsSo outside.sink (IsDebugOf outside lines loaded AreNamed texts prompts options) result
+
+module _ (outside : Outside) (lines : Change (List Text)) (loaded : Result Loaded Refusal) (AreNamed : List Symbol → Type 0) (texts : Texts) (prompts : Bool) (options : Options) (result : Status) where
+  pub debug_refused : (status : Status) → IsRefused loaded status ⊎ (status ≡ NoMemory) → outside.pages.same → lines.same → Ends outside.sink status (refusal_growth status) result → DebuggedOf outside lines loaded AreNamed texts prompts options result
+  debug_refused status (inl r) k l ends = record { meant = status; grown = refusal_growth status; so = inr (inl (record { refused = r; wrote = refl; keeps = k }, l)); ends = ends }
+  debug_refused status (inr e) k l ends = record { meant = status; grown = refusal_growth status; so = inl (e, ap refusal_growth e, k); ends = ends }
+
+  as_debugged : (program : Loaded) (symbols : List Symbol) (status : Status) (grown : Channels) → loaded ≡ Ok program → AreNamed symbols → IsDebugging outside lines program (given texts.input texts.schedule symbols prompts) options status grown
+      → IsDebugOf outside lines loaded AreNamed texts prompts options status grown
+  as_debugged program symbols status grown is named (inl e) = inl e.0
+  as_debugged program symbols status grown is named (inr d) = inr (inr (program, is, symbols, named, d))
+
+  pub debug_held : (program : Loaded) (symbols : List Symbol) → loaded ≡ Ok program → AreNamed symbols → Debugged outside lines program (given texts.input texts.schedule symbols prompts) options result → DebuggedOf outside lines loaded AreNamed texts prompts options result
+  debug_held program symbols is named r = record { meant = r.meant; grown = r.grown; so = as_debugged program symbols r.meant r.grown is named r.so; ends = r.ends }
+
 -- what a run that is saved came to
 
 abbrev pub SavedOf : Outside → Result Loaded Refusal → Texts → Options → Status → Type 0
@@ -108,7 +134,7 @@ module _ (seen : Around) where
   no_memory said status grown e = let is : status ≡ NoMemory = e.0 in rw is (inl (tt, e.1, e.2))
 
   run_comes : (said : Said) (names : List Text) (options : Options) (script : Option Text) (loaded : Texts → Result Loaded Refusal) (texts : Texts) (status : Status) (grown : Channels) → wanted_of said ≡ plain (names ++ of_options options script)
-      → ((files : List Text) → run_of (outside_of seen) loaded (texts_of (length names) options script files) options status grown → Does (outside_of seen) said files status grown)
+      → ((files : List Text) → run_of (outside_of seen) loaded (texts_of (length names) options script files) options status grown → Does seen.lines (outside_of seen) said files status grown)
       → HasTexts seen.files.before.told names options script texts → IsRunOf (outside_of seen) (loaded texts) texts.input texts.schedule options status grown → CommandComes seen said status grown
   run_comes said names options script loaded texts status grown is does h (inl e) = no_memory said status grown e
   run_comes said names options script loaded texts status grown is does h (inr d) = inr (h.files, subst (λ (w : Wanted). ReadsWanted seen.files.before.told w (Ok h.files)) (sym is) h.read, does h.files (subst (λ (t : Texts). run_of (outside_of seen) loaded t options status grown) (sym h.are) d))
@@ -120,7 +146,7 @@ module _ (seen : Around) where
 
     -- a program was run, or refused
     pub run_carries : (said : Said) (names : List Text) (options : Options) (script : Option Text) (loaded : Texts → Result Loaded Refusal) (texts : Texts) → wanted_of said ≡ plain (names ++ of_options options script)
-        → ((files : List Text) (status : Status) (grown : Channels) → run_of (outside_of seen) loaded (texts_of (length names) options script files) options status grown → Does (outside_of seen) said files status grown)
+        → ((files : List Text) (status : Status) (grown : Channels) → run_of (outside_of seen) loaded (texts_of (length names) options script files) options status grown → Does seen.lines (outside_of seen) said files status grown)
         → HasTexts seen.files.before.told names options script texts → RanOf (outside_of seen) (loaded texts) texts.input texts.schedule options result → Carries seen said result
     run_carries said names options script loaded texts is does h r = record {
       meant = r.meant;
@@ -138,6 +164,19 @@ module _ (seen : Around) where
     pub session_carries : (names : List Text) (linked : words_base.Base) (script : Text) (options : Options) (texts : Texts) → HasTexts seen.files.before.told names options (Some script) texts → HeldOf (outside_of seen) (session_programs options.dialect linked texts) texts options result
         → Carries seen (console names linked script options) result
     session_carries names linked script options texts h r = record { meant = r.meant; grown = r.grown; comes = session_comes names linked script options texts r.meant r.grown h r.so; ends = r.ends }
+
+    -- a session with a debugger was held, or refused
+    debug_comes : (names : List Text) (linked : words_base.Base) (prompts : Bool) (options : Options) (texts : Texts) (status : Status) (grown : Channels) → HasTexts seen.files.before.told names options None texts
+        → IsDebugOf (outside_of seen) seen.lines (session_programs options.dialect linked texts) (AreSymbols options.dialect (base_for linked) texts.programs) texts prompts options status grown
+        → CommandComes seen (debug names linked prompts options) status grown
+    debug_comes names linked prompts options texts status grown h (inl e) = no_memory (debug names linked prompts options) status grown e
+    debug_comes names linked prompts options texts status grown h (inr d) =
+        inr (h.files, h.read, subst (λ (t : Texts). DebugDoes (outside_of seen) seen.lines (session_programs options.dialect linked t) (AreSymbols options.dialect (base_for linked) t.programs) t prompts options status grown) (sym h.are) d)
+
+    pub debug_carries : (names : List Text) (linked : words_base.Base) (prompts : Bool) (options : Options) (texts : Texts) → HasTexts seen.files.before.told names options None texts
+        → DebuggedOf (outside_of seen) seen.lines (session_programs options.dialect linked texts) (AreSymbols options.dialect (base_for linked) texts.programs) texts prompts options result
+        → Carries seen (debug names linked prompts options) result
+    debug_carries names linked prompts options texts h r = record { meant = r.meant; grown = r.grown; comes = debug_comes names linked prompts options texts r.meant r.grown h r.so; ends = r.ends }
 
     -- a run was saved, or refused
     save_comes : (names : List Text) (linked : words_base.Base) (options : Options) (texts : Texts) (status : Status) (grown : Channels) → HasTexts seen.files.before.told names options None texts → IsSavedOf (outside_of seen) (session_programs options.dialect linked texts) texts options status grown
@@ -162,12 +201,12 @@ module _ (seen : Around) where
     abbrev pub Written : Result Image Refusal → (Image → Text → Type 0) → Type 0
     Written built Writes = EndsSo seen.sink (IsWriting seen.pages built Writes) result
 
-    image_comes : (said : Said) (files : List Text) (built : Result Image Refusal) (Writes : Image → Text → Type 0) (status : Status) (grown : Channels) → (ImageDoes seen.pages built Writes status grown → Does (outside_of seen) said files status grown) → saved_of said ≡ None → Reads seen.files.before.told (reads_of said) (Ok files) → IsWriting seen.pages built Writes status grown
+    image_comes : (said : Said) (files : List Text) (built : Result Image Refusal) (Writes : Image → Text → Type 0) (status : Status) (grown : Channels) → (ImageDoes seen.pages built Writes status grown → Does seen.lines (outside_of seen) said files status grown) → saved_of said ≡ None → Reads seen.files.before.told (reads_of said) (Ok files) → IsWriting seen.pages built Writes status grown
         → CommandComes seen said status grown
     image_comes said files built Writes status grown does none h (inl e) = no_memory said status grown e
     image_comes said files built Writes status grown does none h (inr d) = inr (files, subst (λ (o : Option Text). ReadsWanted seen.files.before.told (record { saved = o; names = reads_of said }) (Ok files)) (sym none) h, does d)
 
-    pub image_carries : (said : Said) (files : List Text) (built : Result Image Refusal) (Writes : Image → Text → Type 0) → ((status : Status) (grown : Channels) → ImageDoes seen.pages built Writes status grown → Does (outside_of seen) said files status grown) → saved_of said ≡ None → Reads seen.files.before.told (reads_of said) (Ok files) → Written built Writes
+    pub image_carries : (said : Said) (files : List Text) (built : Result Image Refusal) (Writes : Image → Text → Type 0) → ((status : Status) (grown : Channels) → ImageDoes seen.pages built Writes status grown → Does seen.lines (outside_of seen) said files status grown) → saved_of said ≡ None → Reads seen.files.before.told (reads_of said) (Ok files) → Written built Writes
         → Carries seen said result
     image_carries said files built Writes does none h b = record { meant = b.meant; grown = b.grown; comes = image_comes said files built Writes b.meant b.grown (does b.meant b.grown) none h b.so; ends = b.ends }
 
@@ -269,6 +308,7 @@ Allowed seen names grown (Told which) = Unit {0}
 Allowed seen names grown NotHalted = Unit {0}
 Allowed seen names grown Unsuccessful = Unit {0}
 Allowed seen names grown Unfinished = Unit {0}
+Allowed seen names grown LineFault = HasFailed seen.lines
 
 module _ (seen : Around) (names : Wanted) (grown : Channels) where
   read_allowed : (status : Status) → WantedEnds seen.files names status → grown ≡ refusal_growth status → Allowed seen names grown status
@@ -291,6 +331,7 @@ module _ (seen : Around) (names : Wanted) (grown : Channels) where
   read_allowed NotHalted e g = absurd e
   read_allowed Unsuccessful e g = absurd e
   read_allowed Unfinished e g = absurd e
+  read_allowed LineFault e g = absurd e
 
   vectors_allowed : (request : VectorRequest) (status : Status) → VectorsDo seen.pages request status grown → Allowed seen names grown status
   vectors_allowed request status (inl d) = subst (Allowed seen names grown) (sym d.answers) tt
@@ -324,6 +365,7 @@ module _ (seen : Around) (names : Wanted) (grown : Channels) where
   run_allowed strict NotHalted h = tt
   run_allowed strict Unsuccessful h = tt
   run_allowed strict Unfinished h = absurd h
+  run_allowed strict LineFault h = absurd h
 
   why_allowed : (strict : Strictness) (core : Core) (why : Why) → Allowed seen names grown (status_of strict core why)
   why_allowed strict core why = run_allowed strict (status_of strict core why) (answers (HasFailed seen.pages) strict core why)
@@ -362,6 +404,27 @@ module _ (seen : Around) (names : Wanted) (grown : Channels) where
   console_allowed : (loaded : Result Loaded Refusal) (texts : Texts) (options : Options) (status : Status) → SessionDoes (outside_of seen) loaded texts options status grown → Allowed seen names grown status
   console_allowed loaded texts options status (inl r) = refused_allowed loaded status r.refused r.wrote
   console_allowed loaded texts options status (inr d) = held_allowed d.0 texts options status d.2
+
+  ended_allowed : (e : SessionEnd) (status : Status) → status ≡ debug_course.answer_of e → Causes e (outside_of seen) seen.lines → Allowed seen names grown status
+  ended_allowed end.Quit status is cause = subst (Allowed seen names grown) (sym is) tt
+  ended_allowed end.Read status is cause = subst (Allowed seen names grown) (sym is) tt
+  ended_allowed end.Lines status is cause = subst (Allowed seen names grown) (sym is) tt
+  ended_allowed end.Turns status is cause = subst (Allowed seen names grown) (sym is) tt
+  ended_allowed end.PageFault status is cause = subst (Allowed seen names grown) (sym is) cause
+  ended_allowed end.WriteFault status is cause = subst (Allowed seen names grown) (sym is) tt
+  ended_allowed end.LineFault status is cause = subst (Allowed seen names grown) (sym is) cause
+
+  debug_went_allowed : (told : Option BlockFile) (program : Loaded) (g : Given) (options : Options) (status : Status) → debug_course.WentFrom told (outside_of seen) seen.lines (Start program.system program.user g.input) (terms_of g options) status grown → Allowed seen names grown status
+  debug_went_allowed None program g options status w = let ended = w.1 in ended_allowed w.0 status ended.answer ended.cause
+  debug_went_allowed (Some file) program g options status w = let ended = w.1 in ended_allowed w.0 status ended.answer ended.cause
+
+  debugs_allowed : (program : Loaded) (given : Given) (options : Options) (status : Status) → DebugsSo (outside_of seen) seen.lines program given options status grown → Allowed seen names grown status
+  debugs_allowed program given options status (inl m) = let fault = m.0 in planned_allowed _ given.schedule status fault.fault fault.wrote
+  debugs_allowed program given options status (inr r) = debug_went_allowed seen.pages.before.told program given options status r.went
+
+  debug_allowed : (loaded : Result Loaded Refusal) (AreNamed : List Symbol → Type 0) (texts : Texts) (prompts : Bool) (options : Options) (status : Status) → DebugDoes (outside_of seen) seen.lines loaded AreNamed texts prompts options status grown → Allowed seen names grown status
+  debug_allowed loaded AreNamed texts prompts options status (inl r) = let turned = r.0 in refused_allowed loaded status turned.refused turned.wrote
+  debug_allowed loaded AreNamed texts prompts options status (inr d) = debugs_allowed d.0 (given texts.input texts.schedule d.2 prompts) options status d.4
 
   answer_allowed : (why : Why) → Allowed seen names grown (answer_of why)
   answer_allowed (ByEnding ending) = tt
@@ -438,6 +501,7 @@ module _ (seen : Around) (names : Wanted) (grown : Channels) where
   jobs_answer_allowed NotHalted h = absurd h
   jobs_answer_allowed Unsuccessful h = absurd h
   jobs_answer_allowed Unfinished h = absurd h
+  jobs_answer_allowed LineFault h = absurd h
 
   jobs_went_allowed : (told : Option BlockFile) (setup : JobsSetup) (status : Status) → JobsWent told (outside_of seen) setup status grown → Allowed seen names grown status
   jobs_went_allowed None setup status h = jobs_answer_allowed status h.0
@@ -456,20 +520,23 @@ module _ (seen : Around) (names : Wanted) (grown : Channels) where
   image_allowed built Writes status (inl r) = refused_allowed built status r.refused r.wrote
   image_allowed built Writes status (inr b) = subst (Allowed seen names grown) (sym b.0.answer) tt
 
-  told_allowed : (dialect : Dialect) (found : Option Refusal) (checked files : List Text) (status : Status) → IsTold dialect found checked files status grown → Allowed seen names grown status
-  told_allowed dialect None checked files status t = subst (Allowed seen names grown) (sym t.answer) tt
-  told_allowed dialect (Some refusal) checked files status t = subst (Allowed seen names grown) (sym t.answer) tt
+  told_allowed : (dialect : Dialect) (alone : Bool) (found : Option Refusal) (checked files : List Text) (status : Status) → IsTold dialect alone found checked files status grown → Allowed seen names grown status
+  told_allowed dialect alone None checked files status t = subst (Allowed seen names grown) (sym t.answer) tt
+  told_allowed dialect alone (Some refusal) checked files status t = subst (Allowed seen names grown) (sym t.answer) tt
 
 module _ (seen : Around) (grown : Channels) where
-  carried_allowed : (said : Said) (files : List Text) (status : Status) → Does (outside_of seen) said files status grown → Allowed seen (wanted_of said) grown status
+  carried_allowed : (said : Said) (files : List Text) (status : Status) → Does seen.lines (outside_of seen) said files status grown → Allowed seen (wanted_of said) grown status
   carried_allowed (bare names options) files status d = does_allowed seen (wanted_of (bare names options)) grown _ _ _ options status d
   carried_allowed (run names options) files status d = does_allowed seen (wanted_of (run names options)) grown _ _ _ options status d
   carried_allowed (build names target format) files status d = image_allowed seen (plain names) grown _ (IsFile format) status d
   carried_allowed (list names target) files status d = image_allowed seen (plain names) grown _ IsListing status d
   carried_allowed (listing names target) files status d = image_allowed seen (plain names) grown _ (IsSourceListing target.dialect (base_for target.base) files) status d
-  carried_allowed (check names target system) files status d = told_allowed seen (plain (checked_names names system)) grown target.dialect (found_of target.dialect (base_for target.base) names files) (checked_names names system) files status d.0
+  carried_allowed (check names target system) files status d = told_allowed seen (plain (checked_names names system)) grown target.dialect (is_bare (base_for target.base)) (found_of target.dialect (base_for target.base) names files) (checked_names names system) files status d.0
   carried_allowed (console names linked script options) files status d =
       let texts = texts_of (length names) options (Some script) files in console_allowed seen (wanted_of (console names linked script options)) grown (session_programs options.dialect linked texts) texts options status d
+  carried_allowed (debug names linked prompts options) files status d =
+      let texts = texts_of (length names) options None files in
+      debug_allowed seen (wanted_of (debug names linked prompts options)) grown (session_programs options.dialect linked texts) (AreSymbols options.dialect (base_for linked) texts.programs) texts prompts options status d
   carried_allowed (trace names linked tracing options) files status d =
       let texts = texts_of (length names) options None files in trace_allowed seen (wanted_of (trace names linked tracing options)) grown (session_programs options.dialect linked texts) texts tracing options status d
   carried_allowed (work seed size options) files status d = does_allowed seen (plain (of_options options None)) grown _ _ _ options status d
@@ -514,6 +581,10 @@ module _ (seen : Around) (grown : Channels) where
   has_failed None h = let e : PageFault ≡ Usage = h.0 in absurd (cc e)
   has_failed (Some said) h = h
 
+  has_broken : (o : Option Said) → AllowedBy o LineFault → HasFailed seen.lines
+  has_broken None h = let e : LineFault ≡ Usage = h.0 in absurd (cc e)
+  has_broken (Some said) h = h
+
   never_write : (o : Option Said) → AllowedBy o WriteFault → ⊥
   never_write None h = let e : WriteFault ≡ Usage = h.0 in cc e
   never_write (Some said) h = h
@@ -538,6 +609,7 @@ module _ (seen : Around) (grown : Channels) where
   lines names NotHalted h = tt
   lines names Unsuccessful h = tt
   lines names Unfinished h = tt
+  lines names LineFault h = tt
 
   line_by : (o : Option Said) (status : Status) → AllowedBy o status → IfSome (refusal status) (λ text. grown ≡ only channel.Report text)
   line_by None status h = rw h.0 h.1
@@ -595,6 +667,9 @@ module _ (seen : Around) (words : List Text) (result : Status) (h : Comes seen w
 
   pub page_fault : result ≡ PageFault → HasFailed seen.pages
   page_fault e = has_failed seen h.grown (command_of words) (by_answer PageFault e (λ w. cc w))
+
+  pub line_fault : result ≡ LineFault → HasFailed seen.lines
+  line_fault e = has_broken seen h.grown (command_of words) (by_answer LineFault e (λ w. cc w))
 
   not_asked : (o : Option Said) (meant : Status) → o ≡ None → AllowedBy seen h.grown o meant → meant ≡ Usage
   not_asked None meant e a = a.0

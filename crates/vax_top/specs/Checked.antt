@@ -1,5 +1,5 @@
 -- What `check` tells of a program.
-use Rattle.std.specs.Prelude.{◌≡◌, ◌⊎◌, List, [], ◌∷◌, ◌++◌, take, drop, length, Option, None, Some, Result, Ok, Err}
+use Rattle.std.specs.Prelude.{◌≡◌, ◌⊎◌, Bool, true, false, List, [], ◌∷◌, ◌++◌, take, drop, length, Option, None, Some, Result, Ok, Err}
 use Rattle.vax_check.specs.Told.{Tells}
 use Rattle.vax_cli.specs.Words.{Text}
 use Rattle.vax_command.specs.Around.{Change}
@@ -11,6 +11,7 @@ use Rattle.vax_command.specs.declared.status.Status.{Status}
 use Rattle.vax_command.specs.declared.status.Status.TheVariants.{Done, Told}
 use Rattle.vax_dialect.specs.declared.Dialect.{Dialect}
 use Rattle.vax_image.specs.declared.Base.{Base}
+use Rattle.vax_image.specs.declared.Base.TheVariants.{User, Bare}
 use Rattle.vax_outside.specs.Blocks.{BlockFile}
 use Rattle.vax_outside.specs.Channels.{Channels, only}
 use Rattle.vax_outside.specs.declared.traits.Chan.TheVariants.{Out}
@@ -35,6 +36,11 @@ checked_names names system = names ++ given system
 abbrev pub found_of : Dialect → Base → List Text → (files : List Text) → Option Refusal
 found_of dialect linked names files = found_in dialect linked (take (length names) files) (drop (length names) files)
 
+-- a base is the bare machine's
+abbrev pub is_bare : Base → Bool
+is_bare User = false
+is_bare Bare = true
+
 -- what of a program keeps it from being built
 abbrev pub part_of : Refusal → Part
 part_of (Source file line kind) = part.Source
@@ -46,17 +52,18 @@ abbrev pub answer_of : Option Refusal → Status
 answer_of None = Done
 answer_of (Some refusal) = Told (part_of refusal)
 
--- What was found was told on Out: no error of a program that is built, and of any other what keeps it from that.
-pub record IsTold (dialect : Dialect) (found : Option Refusal) (names files : List Text) (status : Status) (grown : Channels) : Type 0 where
+-- What was found of a program, which may be one for the bare machine, was told on Out: no error of one that is built, and of any other what keeps it
+-- from that; and then the remarks on its sources.
+pub record IsTold (dialect : Dialect) (bare : Bool) (found : Option Refusal) (names files : List Text) (status : Status) (grown : Channels) : Type 0 where
   pub text : Text
-  pub tells : Tells dialect names files found text
+  pub tells : Tells dialect bare names files found text
   pub answer : status ≡ answer_of found
   pub wrote : grown ≡ only Out text
 
 -- what `check` does
-abbrev pub CheckDoes : Change BlockFile → Dialect → Option Refusal → (names files : List Text) → Status → Channels → Type 0
-CheckDoes pages dialect found names files status grown = IsTold dialect found names files status grown × pages.same
+abbrev pub CheckDoes : Change BlockFile → Dialect → (bare : Bool) → Option Refusal → (names files : List Text) → Status → Channels → Type 0
+CheckDoes pages dialect bare found names files status grown = IsTold dialect bare found names files status grown × pages.same
 
 -- a program was checked so, or memory was refused before
-abbrev pub IsChecking : Change BlockFile → Dialect → Option Refusal → (names files : List Text) → Status → Channels → Type 0
-IsChecking pages dialect found names files status grown = LacksMemory pages status grown ⊎ CheckDoes pages dialect found names files status grown
+abbrev pub IsChecking : Change BlockFile → Dialect → (bare : Bool) → Option Refusal → (names files : List Text) → Status → Channels → Type 0
+IsChecking pages dialect bare found names files status grown = LacksMemory pages status grown ⊎ CheckDoes pages dialect bare found names files status grown

@@ -1,10 +1,10 @@
 -- What a call of the program comes to.
-use Rattle.std.specs.Prelude.{◌≡◌, ◌⊎◌, ℕ, List, [], ◌∷◌, ◌++◌, length, Option, None, Some, MatchOption, Result, Ok}
+use Rattle.std.specs.Prelude.{◌≡◌, ◌⊎◌, ℕ, Bool, true, false, List, [], ◌∷◌, ◌++◌, length, Option, None, Some, MatchOption, Result, Ok}
 use Rattle.std.specs.Option.{option_map_or}
 use Rattle.vax_outside.specs.Channels.{Channels, only}
 use Rattle.vax_outside.specs.Blocks.{BlockFile}
 use Rattle.vax_outside.specs.declared.traits.Chan.TheVariants as channel
-use Rattle.vax_cli.specs.Words.{Text, Options, Said, bare, run, build, list, listing as source_listing, check, console, trace, save, resume, jobs, work, vectors, about, command_of}
+use Rattle.vax_cli.specs.Words.{Text, Options, Said, bare, run, build, list, listing as source_listing, check, console, debug, trace, save, resume, jobs, work, vectors, about, command_of}
 use Rattle.vax_cli.specs.Tracing.{Tracing}
 use Rattle.vax_cli.specs.declared.command.Base as words_base
 use Rattle.vax_cli.specs.declared.command.Base.TheVariants as words_bases
@@ -22,7 +22,7 @@ use Rattle.vax_asm_listing.specs.Listed as listed
 use Rattle.vax_command.specs.Around.{Around, Change, Outside, outside_of}
 use Rattle.vax_command.specs.Ends.{Ends, EndsSo}
 use Rattle.vax_top.specs.Vectors.{VectorsDo}
-use Rattle.vax_top.specs.Checked.{CheckDoes, checked_names, found_of}
+use Rattle.vax_top.specs.Checked.{CheckDoes, checked_names, found_of, is_bare}
 use Rattle.vax_top.specs.Loaded.{IsRefused, bare_loaded, image_from, sources_image, user_loaded}
 use Rattle.vax_command.specs.Reading.{Texts, of_options, texts_of}
 use Rattle.vax_command.specs.Loaded.{Loaded}
@@ -35,6 +35,9 @@ use Rattle.vax_command.specs.Jobs.{JobsRunSo, JobsTexts, Users, jobs_files, jobs
 use Rattle.vax_top.specs.Together.{together_loaded}
 use Rattle.vax_command.specs.Holding.{HeldSo}
 use Rattle.vax_command.specs.Tracing.{TracesSo}
+use Rattle.vax_debug_names.specs.declared.Symbol.{Symbol}
+use Rattle.vax_debug_symbols.specs.Symbols.{AreSymbols}
+use Rattle.vax_command_debug.specs.Debugging.{DebugsSo, given}
 use Rattle.vax_command.specs.Status.{refusal_growth}
 use Rattle.vax_command.specs.declared.status.Status.{Status}
 use Rattle.vax_command.specs.declared.status.Status.TheVariants.{Done, NoMemory, Usage}
@@ -48,6 +51,7 @@ reads_of (list names target) = names
 reads_of (source_listing names target) = names
 reads_of (check names target system) = checked_names names system
 reads_of (console names linked script options) = names ++ of_options options (Some script)
+reads_of (debug names linked prompts options) = names ++ of_options options None
 reads_of (trace names linked tracing options) = names ++ of_options options None
 reads_of (save names linked options) = names ++ of_options options None
 reads_of (resume name options) = of_options options None
@@ -86,6 +90,13 @@ abbrev pub SessionDoes : Outside → Result Loaded Refusal → Texts → Options
 SessionDoes outside loaded texts options status grown =
     IsTurnedAway outside.pages loaded status grown
     ⊎ ((program : Loaded) × (loaded ≡ Ok program) × HeldSo outside program texts.input texts.schedule texts.script options status grown)
+
+-- a session with a debugger: it is held on any other program with symbols that these are, unless its schedule has a fault; no line is taken before
+abbrev pub DebugDoes : Outside → Change (List Text) → Result Loaded Refusal → (AreNamed : List Symbol → Type 0) → Texts → Bool → Options → Status → Channels → Type 0
+DebugDoes outside lines loaded AreNamed texts prompts options status grown =
+    (IsTurnedAway outside.pages loaded status grown × lines.same)
+    ⊎ ((program : Loaded) × (loaded ≡ Ok program) × (symbols : List Symbol) × AreNamed symbols
+    × DebugsSo outside lines program (given texts.input texts.schedule symbols prompts) options status grown)
 
 -- a traced run: any other program is run and its steps are listed, unless its schedule has a fault
 abbrev pub TraceDoes : Outside → Result Loaded Refusal → Texts → Tracing → Options → Status → Channels → Type 0
@@ -155,6 +166,11 @@ abbrev pub IsSessionOf : Outside → Result Loaded Refusal → Texts → Options
 IsSessionOf outside loaded texts options status grown =
     LacksMemory outside.pages status grown ⊎ SessionDoes outside loaded texts options status grown
 
+-- a session with a debugger went so, or memory was refused before it
+abbrev pub IsDebugOf : Outside → Change (List Text) → Result Loaded Refusal → (AreNamed : List Symbol → Type 0) → Texts → Bool → Options → Status → Channels → Type 0
+IsDebugOf outside lines loaded AreNamed texts prompts options status grown =
+    LacksMemory outside.pages status grown ⊎ DebugDoes outside lines loaded AreNamed texts prompts options status grown
+
 -- a traced run went so, or memory was refused before it
 abbrev pub IsTraceOf : Outside → Result Loaded Refusal → Texts → Tracing → Options → Status → Channels → Type 0
 IsTraceOf outside loaded texts tracing options status grown =
@@ -204,38 +220,41 @@ base_for words_bases.User = bases.User
 base_for words_bases.Bare = bases.Bare
 
 -- what a command does with its files: the table of commands
-abbrev pub Does : Outside → Said → (files : List Text) → Status → Channels → Type 0
-Does outside (bare names options) files status grown =
+abbrev pub Does : Change (List Text) → Outside → Said → (files : List Text) → Status → Channels → Type 0
+Does lines outside (bare names options) files status grown =
     run_of outside (bare_programs options.dialect) (texts_of (length names) options None files) options status grown
-Does outside (run names options) files status grown =
+Does lines outside (run names options) files status grown =
     run_of outside (user_programs options.dialect) (texts_of (length names) options None files) options status grown
-Does outside (work seed size options) files status grown =
+Does lines outside (work seed size options) files status grown =
     run_of outside (work_programs options.dialect seed size) (texts_of 0 options None files) options status grown
-Does outside (build names target format) files status grown =
+Does lines outside (build names target format) files status grown =
     ImageDoes outside.pages (image_from target.dialect (base_for target.base) files) (IsFile format) status grown
-Does outside (list names target) files status grown =
+Does lines outside (list names target) files status grown =
     ImageDoes outside.pages (image_from target.dialect (base_for target.base) files) IsListing status grown
-Does outside (source_listing names target) files status grown =
+Does lines outside (source_listing names target) files status grown =
     ImageDoes outside.pages (sources_image target.dialect (base_for target.base) files) (IsSourceListing target.dialect (base_for target.base) files) status grown
-Does outside (check names target system) files status grown =
-    CheckDoes outside.pages target.dialect (found_of target.dialect (base_for target.base) names files) (checked_names names system) files status grown
-Does outside (console names linked script options) files status grown =
+Does lines outside (check names target system) files status grown =
+    CheckDoes outside.pages target.dialect (is_bare (base_for target.base)) (found_of target.dialect (base_for target.base) names files) (checked_names names system) files status grown
+Does lines outside (console names linked script options) files status grown =
     session_of outside (session_programs options.dialect linked) (texts_of (length names) options (Some script) files) options status grown
-Does outside (trace names linked tracing options) files status grown =
+Does lines outside (debug names linked prompts options) files status grown =
+    let texts = texts_of (length names) options None files in
+    DebugDoes outside lines (session_programs options.dialect linked texts) (AreSymbols options.dialect (base_for linked) texts.programs) texts prompts options status grown
+Does lines outside (trace names linked tracing options) files status grown =
     trace_of outside (session_programs options.dialect linked) (texts_of (length names) options None files) tracing options status grown
-Does outside (vectors request) files status grown = VectorsDo outside.pages request status grown
-Does outside (save names linked options) files status grown =
+Does lines outside (vectors request) files status grown = VectorsDo outside.pages request status grown
+Does lines outside (save names linked options) files status grown =
     let texts = texts_of (length names) options None files in SaveDoes outside (session_programs options.dialect linked texts) texts options status grown
-Does outside (resume name options) files status grown = ResumeDoes outside files options status grown
-Does outside (jobs names options) files status grown = jobs_of outside (jobs_texts_of (length names) options files) options status grown
-Does outside about files status grown =
+Does lines outside (resume name options) files status grown = ResumeDoes outside files options status grown
+Does lines outside (jobs names options) files status grown = jobs_of outside (jobs_texts_of (length names) options files) options status grown
+Does lines outside about files status grown =
     (text : Text) × (status ≡ Done) × (grown ≡ only channel.Out text) × outside.pages.same
 
 -- The answer that a command is to give, and what it is to write: a read ended it, or it has done its work with what was read.
 abbrev pub CommandComes : Around → Said → Status → Channels → Type 0
 CommandComes seen said status grown =
     (WantedEnds seen.files (wanted_of said) status × (grown ≡ refusal_growth status) × seen.pages.same)
-    ⊎ ((files : List Text) × ReadsWanted seen.files.before.told (wanted_of said) (Ok files) × Does (outside_of seen) said files status grown)
+    ⊎ ((files : List Text) × ReadsWanted seen.files.before.told (wanted_of said) (Ok files) × Does seen.lines (outside_of seen) said files status grown)
 
 -- the same for any words: those that aren't plain are refused
 abbrev pub WordsCome : Around → (words : List Text) → Status → Channels → Type 0
@@ -255,3 +274,8 @@ pub record Comes (seen : Around) (words : List Text) (result : Status) : Type 0 
   pub grown : Channels
   pub comes : WordsCome seen words meant grown
   pub ends : Ends seen.sink meant grown result
+
+-- the words of a session with a debugger
+abbrev pub asks_debug : Option Said → Bool
+asks_debug (Some (debug names linked prompts options)) = true
+asks_debug _ = false

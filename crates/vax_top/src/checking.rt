@@ -9,14 +9,14 @@ ghost use Rattle.vax_command.specs.Loaded.{loaded_seen};
 ghost use Rattle.vax_command.specs.ReadingView.{texts as texts_seen};
 ghost use Rattle.vax_outside.specs.Channels.{only};
 ghost use Rattle.vax_program.specs.View.{Answers, refusal_seen};
-ghost use Rattle.vax_top.specs.Checked.{IsChecking, answer_of, checked_names, found_in, refusal_of};
+ghost use Rattle.vax_top.specs.Checked.{IsChecking, answer_of, checked_names, found_in, is_bare, refusal_of};
 ghost use Rattle.vax_top.specs.Loaded.{image_from, user_loaded};
 ghost use Rattle.vax_top.specs.Top.{Carries, base_for};
 
 use crate::commands::base_for;
 use std::alloc::{AllocError, Global};
 use vax_check::{Files as Checked, text_of};
-use vax_cli::{Base, Target};
+use vax_cli::Target;
 use vax_command::{Part, Programs, Status, load_files, refuse};
 use vax_dialect::Dialect;
 use vax_image::Image;
@@ -157,7 +157,7 @@ fn tell_of<K: Sink>(
     sink: &mut K,
 ) -> Status
     ensures { EndsSo (change K.faults K.contents sink.old sink.new)
-        (IsChecking untouched files.entry.dialect
+        (IsChecking untouched files.entry.dialect files.entry.bare
         (option_map (λ r. refusal_seen r.now) refusal.entry)
         (names_of files.entry.names.now) (texts_seen files.entry.texts.now)) result }
 {
@@ -181,7 +181,7 @@ fn tell<K: Sink>(
     requires one { length files.texts.now ≤ count + 1 }
     ensures { let texts = texts_seen files.entry.texts.now in
         EndsSo (change K.faults K.contents sink.old sink.new)
-        (IsChecking untouched files.entry.dialect
+        (IsChecking untouched files.entry.dialect files.entry.bare
         (found_in files.entry.dialect base (take count texts) (drop count texts))
         (names_of files.entry.names.now) texts) result }
 {
@@ -190,6 +190,16 @@ fn tell<K: Sink>(
         Ok(None) => tell_of(alloc, files, None, sink),
         Ok(Some(refusal)) => tell_of(alloc, files, Some(&refusal), sink),
         Err(NoMemory) => refuse(Status::NoMemory, sink),
+    }
+}
+
+/// Whether a base is the bare machine's.
+fn is_bare(base: vax_image::Base) -> bool
+    ensures { result ≡ is_bare base }
+{
+    match base {
+        vax_image::Base::User => false,
+        vax_image::Base::Bare => true,
     }
 }
 
@@ -234,13 +244,14 @@ pub(crate) fn check<S: Files, K: Sink>(
     };
     match load_files(alloc, &all, files) {
         Ok(texts) => {
+            let base = base_for(target.base);
             let checked = Checked {
                 dialect: target.dialect,
                 names: &all,
                 texts: &texts,
-                bare: target.base == Base::Bare,
+                bare: is_bare(base),
             };
-            tell(alloc, base_for(target.base), names.len(), checked, sink)
+            tell(alloc, base, names.len(), checked, sink)
         }
         Err(status) => refuse(status, sink),
     }

@@ -4,6 +4,7 @@
 mod checking;
 mod commands;
 mod console;
+mod debugging;
 mod jobs;
 mod laws;
 mod programs;

@@ -1,20 +1,21 @@
 //! The top call.
-ghost use Rattle.std.specs.Prelude.{◌≡◌, ◌≢◌, ◌⊎◌, ℕ, List, None, Err, IfSome};
+ghost use Rattle.std.specs.Prelude.{◌≡◌, ◌≢◌, ◌⊎◌, ℕ, List, None, Some, Err, IfSome, false};
 ghost use Rattle.vax_outside.specs.Faults.{Rose};
 ghost use Rattle.vax_outside.specs.declared.traits.FilesFault.TheVariants as files_fault;
 ghost use Rattle.vax_outside.specs.Channels.{Grew, only};
 ghost use Rattle.vax_outside.specs.declared.traits.Chan.TheVariants.{Report};
 ghost use Rattle.vax_cli.specs.Said.{IsWithin, said, texts};
 ghost use Rattle.vax_cli.specs.Words.{command_of};
-ghost use Rattle.vax_command.specs.Around.{around, change};
+ghost use Rattle.vax_command.specs.Around.{around, beside, change};
 ghost use Rattle.vax_command.specs.Ends.{Admits, EndsSo};
 ghost use Rattle.vax_command.specs.Status.{refusal};
 ghost use Rattle.vax_command.specs.Wanting.{ReadsWanted};
-ghost use Rattle.vax_top.specs.Top.{Carries, Comes, IsAbout, reads};
+ghost use Rattle.vax_top.specs.Top.{Carries, Comes, IsAbout, asks_debug, reads};
 
 use crate::checking::check;
 use crate::commands::{build, list, list_sources, run_bare, run_user, run_work, show};
 use crate::console::run_console;
+use crate::debugging::run_debug;
 use crate::jobs::run_together;
 use crate::saving::{run_resume, run_save};
 use crate::tracing::run_trace;
@@ -22,6 +23,7 @@ use crate::vectors::write_vectors;
 use std::alloc::Global;
 use vax_cli::{Command, WordsError, command_of};
 use vax_command::{Status, refuse};
+use vax_input::Lines;
 use vax_outside::{Files, PageFile, Sink};
 
 /// Writes the text about the program that the words ask for to Out.
@@ -35,22 +37,25 @@ fn tell<K: Sink>(alloc: Global, words: &[String], sink: &mut K) -> Status
 }
 
 /// Carries a command out.
-fn carry_out<S: Files, K: Sink, F: PageFile>(
+fn carry_out<S: Files, L: Lines, K: Sink, F: PageFile>(
     alloc: Global,
     words: &[String],
     command: Command<'_>,
     files: &mut S,
+    lines: &mut L,
     sink: &mut K,
     pages: &mut F,
 ) -> Status
     requires within { IsWithin (said command) }
-    ensures carries { Carries (around
+    ensures carries { Carries (beside (change L.faults L.rest lines.old lines.new) (around
         (change S.faults S.contents files.old files.new)
         (change K.faults K.contents sink.old sink.new)
-        (change F.faults F.contents pages.old pages.new))
+        (change F.faults F.contents pages.old pages.new)))
         (said command.entry) result }
+    ensures left { asks_debug (Some (said command.entry)) ≡ false → lines.new ≡ lines.old }
     ensures read_failed { Admits (S.faults files.old) (S.faults files.new) Status.ReadFault result }
     ensures page_failed { Admits (F.faults pages.old) (F.faults pages.new) Status.PageFault result }
+    ensures line_failed { Admits (L.faults lines.old) (L.faults lines.new) Status.LineFault result }
 {
     match command {
         Command::Bare {
@@ -101,6 +106,22 @@ fn carry_out<S: Files, K: Sink, F: PageFile>(
             sink,
             pages,
         ),
+        Command::Debug {
+            files: names,
+            base,
+            prompt,
+            options,
+        } => run_debug(
+            alloc,
+            names.as_slice(),
+            base,
+            prompt,
+            &options,
+            files,
+            lines,
+            sink,
+            pages,
+        ),
         Command::Trace {
             files: names,
             base,
@@ -132,41 +153,46 @@ fn carry_out<S: Files, K: Sink, F: PageFile>(
 }
 
 /// Reads the words, and carries out the command that they ask for.
-fn perform<S: Files, K: Sink, F: PageFile>(
+fn perform<S: Files, L: Lines, K: Sink, F: PageFile>(
     alloc: Global,
     words: &[String],
     files: &mut S,
+    lines: &mut L,
     sink: &mut K,
     pages: &mut F,
 ) -> Status
-    ensures headline { Comes (around
+    ensures headline { Comes (beside (change L.faults L.rest lines.old lines.new) (around
         (change S.faults S.contents files.old files.new)
         (change K.faults K.contents sink.old sink.new)
-        (change F.faults F.contents pages.old pages.new))
+        (change F.faults F.contents pages.old pages.new)))
         (texts words.now) result }
+    ensures left { asks_debug (command_of (texts words.now)) ≡ false → lines.new ≡ lines.old }
     ensures read_failed { Admits (S.faults files.old) (S.faults files.new) Status.ReadFault result }
     ensures page_failed { Admits (F.faults pages.old) (F.faults pages.new) Status.PageFault result }
+    ensures line_failed { Admits (L.faults lines.old) (L.faults lines.new) Status.LineFault result }
 {
     match command_of(alloc, words) {
         Err(WordsError::Usage) => refuse(Status::Usage, sink),
         Err(WordsError::NoMemory) => refuse(Status::NoMemory, sink),
-        Ok(command) => carry_out(alloc, words, command, files, sink, pages),
+        Ok(command) => carry_out(alloc, words, command, files, lines, sink, pages),
     }
 }
 
 /// What the program does with its words.
-pub fn vax_main<S: Files, K: Sink, F: PageFile>(
+pub fn vax_main<S: Files, L: Lines, K: Sink, F: PageFile>(
     alloc: Global,
     words: &[String],
     files: &mut S,
+    lines: &mut L,
     sink: &mut K,
     pages: &mut F,
 ) -> Status
-    ensures headline { Comes (around
+    ensures headline { Comes (beside (change L.faults L.rest lines.old lines.new) (around
         (change S.faults S.contents files.old files.new)
         (change K.faults K.contents sink.old sink.new)
-        (change F.faults F.contents pages.old pages.new))
+        (change F.faults F.contents pages.old pages.new)))
         (texts words.now) result }
+    ensures left { asks_debug (command_of (texts words.now)) ≡ false → lines.new ≡ lines.old }
     ensures usage { result ≡ Status.Usage → command_of (texts words.now) ≡ None }
     ensures not_plain { command_of (texts words.now) ≡ None →
         (result ≡ Status.Usage) ⊎ (result ≡ Status.WriteFault) }
@@ -180,6 +206,9 @@ pub fn vax_main<S: Files, K: Sink, F: PageFile>(
     ensures page_fault { result ≡ Status.PageFault →
         Rose (F.faults pages.old) (F.faults pages.new) }
     ensures page_failed { Admits (F.faults pages.old) (F.faults pages.new) Status.PageFault result }
+    ensures line_fault { result ≡ Status.LineFault →
+        Rose (L.faults lines.old) (L.faults lines.new) }
+    ensures line_failed { Admits (L.faults lines.old) (L.faults lines.new) Status.LineFault result }
     ensures write { result ≡ Status.WriteFault → Rose (K.faults sink.old) (K.faults sink.new) }
     ensures read_failed { Admits (S.faults files.old) (S.faults files.new) Status.ReadFault result }
     ensures write_failed { (K.faults sink.new).count ≢ (K.faults sink.old).count
@@ -187,5 +216,5 @@ pub fn vax_main<S: Files, K: Sink, F: PageFile>(
     ensures refused { IfSome (refusal result) (λ text.
         Grew (K.contents sink.old) (K.contents sink.new) (only Report text)) }
 {
-    perform(alloc, words, files, sink, pages)
+    perform(alloc, words, files, lines, sink, pages)
 }

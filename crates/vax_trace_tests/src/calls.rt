@@ -1,6 +1,7 @@
 //! Whole calls of `trace` over objects in memory. Expected values are worked by hand.
 use std::process::Abort;
 use std::test::Fail;
+use vax_input::MemLines;
 use vax_outside::{Chan, MemFiles, MemPages, MemSink};
 use vax_top::vax_main;
 
@@ -72,7 +73,15 @@ fn call(rt: &HostRuntime, line: &str) -> Result<Left, Fail> {
     let mut files = MemFiles::new(held, Vec::new(alloc));
     let mut sink = MemSink::new(alloc, [100_000; 3], 4_096, Vec::new(alloc))?;
     let mut pages = MemPages::new(alloc, 200, 10_000, Vec::new(alloc))?;
-    let status = vax_main(alloc, all.as_slice(), &mut files, &mut sink, &mut pages);
+    let mut lines = MemLines::new(b"");
+    let status = vax_main(
+        alloc,
+        all.as_slice(),
+        &mut files,
+        &mut lines,
+        &mut sink,
+        &mut pages,
+    );
     Ok(Left {
         code: status.code(),
         sink,

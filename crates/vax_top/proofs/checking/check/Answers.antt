@@ -22,5 +22,5 @@ returns-in-Ok-load_files-clause-carries g c =
     let read : texts c.deref-in-Ok-load_files-2.result.now ≡ files = ap texts c.deref-in-Ok-load_files-2.ensures.value in
     check_carries seen names c.args.target system c.tell.result files
     (subst (λ (list : List Text). Reads seen.files.before.told list (Ok files)) named c.in-Ok-load_files.ensures.ok)
-    (all_told seen.sink c.args.names.now c.args.target all files c.tell.result c.base_for.result (length c.args.names.now)
-    (names_of c.deref-in-Ok-load_files.result.now) (texts c.deref-in-Ok-load_files-2.result.now) c.base_for.ensures refl shown read c.tell.ensures)
+    (all_told seen.sink c.args.names.now c.args.target all files c.tell.result c.is_bare.result c.base_for-base.result (length c.args.names.now)
+    (names_of c.deref-in-Ok-load_files.result.now) (texts c.deref-in-Ok-load_files-2.result.now) c.is_bare.ensures c.base_for-base.ensures refl shown read c.tell.ensures)

@@ -1,4 +1,4 @@
-use Rattle.vax_top.proofs.TopLaws.{large, missing, not_plain, page_fault, read_fault, refused, usage, write_failed, write_fault}
+use Rattle.vax_top.proofs.TopLaws.{large, line_fault, missing, not_plain, page_fault, read_fault, refused, usage, write_failed, write_fault}
 use Rattle.vax_top.proofs.top.vax_main.Goals as goal
 
 pub returns-clause-usage : goal.returns-clause-usage
@@ -15,6 +15,9 @@ returns-clause-read g c = read_fault _ _ _ c.perform.ensures.headline
 
 pub returns-clause-page_fault : goal.returns-clause-page_fault
 returns-clause-page_fault g c = page_fault _ _ _ c.perform.ensures.headline
+
+pub returns-clause-line_fault : goal.returns-clause-line_fault
+returns-clause-line_fault g c = line_fault _ _ _ c.perform.ensures.headline
 
 pub returns-clause-write : goal.returns-clause-write
 returns-clause-write g c = write_fault _ _ _ c.perform.ensures.headline

@@ -1,0 +1,138 @@
+-- How a session with a debugger goes, and what it writes.
+use Rattle.std.specs.Prelude.{ℕ, ◌≡◌, ◌⊎◌, List, [], ◌∷◌, ◌++◌, Option, None, Some}
+use Rattle.vax_outside.specs.Blocks.{BlockFile}
+use Rattle.vax_outside.specs.Channels.{Channels}
+use Rattle.vax_flat.specs.Parts.{Place, At, machine_at}
+use Rattle.vax_flat.specs.Step.{Flat}
+use Rattle.vax_report.specs.declared.Last.{Last}
+use Rattle.vax_report.specs.declared.Last.TheVariants as last
+use Rattle.vax_machine.specs.Machine.{Means}
+use Rattle.vax_machine.specs.declared.engine.Engine.{Engine}
+use Rattle.vax_console.specs.Ends.{IsOnTheWay, IsOutOfTurns, writes}
+use Rattle.vax_console.specs.Transcript.{Session, last_of}
+use Rattle.vax_debug_session.specs.Exchanges.{Exchange, lines_of}
+use Rattle.vax_debug_session.specs.Holding.{Asked, Terms, Took, act_of, after_line, held_after, prompt, replied, transcript}
+use Rattle.vax_debug_session.specs.Requests.{Held, held}
+use Rattle.vax_debug_session.specs.declared.SessionEnd.{SessionEnd}
+use Rattle.vax_debug_session.specs.declared.SessionEnd.TheVariants as end
+use Rattle.vax_cli.specs.Words.{Text}
+use Rattle.vax_command.specs.Around.{Change, HasFailed, Outside}
+use Rattle.vax_command.specs.SessionWent.{broken_off, opening}
+use Rattle.vax_command.specs.declared.status.Status.{Status}
+use Rattle.vax_command.specs.declared.status.Status.TheVariants.{Done, LineFault, PageFault, Turns}
+
+-- where a session stops: a place of the flat machine, the steps that lead there, and what was replied before
+pub record Spot : Type 0 where
+  pub place : Place
+  pub steps : ℕ
+  pub replies : List ℕ
+
+-- between two lines
+abbrev pub spot_at : Session → List ℕ → Spot
+spot_at s replies = record { place = At s.machine; steps = s.steps; replies = replies }
+
+-- before the first line, where steps stop at no address
+abbrev pub begun : Flat → Held
+begun start = held (opening start) []
+
+-- the lines in front of the last were carried out, and the machine is on the way through the steps of the last one
+pub record IsStepping (g : Terms) (h : Held) (lines : List Exchange) (spot : Spot) : Type 0 where
+  pub front : List Exchange
+  pub last : Exchange
+  pub splits : lines ≡ front ++ last ∷ []
+  pub way : IsOnTheWay (held_after g h front).session (act_of g (held_after g h front) last).most spot.place spot.steps
+  pub replies : spot.replies ≡ transcript g h front ++ prompt g.prompts
+
+-- so it is, and it can't go on: the limit of turns is reached
+pub record IsOutOf (outside : Outside) (g : Terms) (h : Held) (lines : List Exchange) (spot : Spot) : Type 0 where
+  pub stepping : IsStepping g h lines spot
+  pub machine : Engine
+  pub means : Means machine outside.pages.after.told spot.place
+  pub out : IsOutOfTurns g.limits.turns (held_after g h stepping.front).session (act_of g (held_after g h stepping.front) stepping.last).most machine
+
+-- the last line was carried out too, and a part of its reply was written
+pub record IsReplying (g : Terms) (h : Held) (lines : List Exchange) (spot : Spot) : Type 0 where
+  pub front : List Exchange
+  pub last : Exchange
+  pub splits : lines ≡ front ++ last ∷ []
+  pub told : List ℕ
+  pub untold : List ℕ
+  pub parts : told ++ untold ≡ replied g (held_after g h front) last
+  pub is : spot ≡ spot_at (after_line g (held_after g h front) last).session ((transcript g h front ++ prompt g.prompts) ++ told)
+
+-- all lines were carried out, and a part of the next prompt was written
+pub record IsPrompting (g : Terms) (h : Held) (lines : List Exchange) (spot : Spot) : Type 0 where
+  pub told : List ℕ
+  pub untold : List ℕ
+  pub parts : told ++ untold ≡ prompt g.prompts
+  pub is : spot ≡ spot_at (held_after g h lines).session (transcript g h lines ++ told)
+
+-- all were, and this was written behind their replies
+abbrev pub IsBehind : Terms → Held → List Exchange → (more : List ℕ) → Spot → Type 0
+IsBehind g h lines more spot = spot ≡ spot_at (held_after g h lines).session (transcript g h lines ++ more)
+
+-- where a session stops that ends so
+abbrev pub StopsAt : SessionEnd → Outside → Terms → Held → List Exchange → Spot → Type 0
+StopsAt end.Quit outside g h lines spot = IsBehind g h lines [] spot
+StopsAt end.Read outside g h lines spot = IsBehind g h lines (prompt g.prompts) spot
+StopsAt end.Lines outside g h lines spot = IsBehind g h lines [] spot
+StopsAt end.Turns outside g h lines spot = IsOutOf outside g h lines spot
+StopsAt end.PageFault outside g h lines spot = IsStepping g h lines spot ⊎ IsReplying g h lines spot
+StopsAt end.WriteFault outside g h lines spot = (IsStepping g h lines spot ⊎ IsReplying g h lines spot) ⊎ IsPrompting g h lines spot
+StopsAt end.LineFault outside g h lines spot = IsBehind g h lines (prompt g.prompts) spot
+
+-- what failed
+abbrev pub Causes : SessionEnd → Outside → Change (List Text) → Type 0
+Causes end.Quit outside lines = Unit {0}
+Causes end.Read outside lines = Unit {0}
+Causes end.Lines outside lines = Unit {0}
+Causes end.Turns outside lines = Unit {0}
+Causes end.PageFault outside lines = HasFailed outside.pages
+Causes end.WriteFault outside lines = HasFailed outside.sink
+Causes end.LineFault outside lines = HasFailed lines
+
+-- why, as the report tells it
+abbrev pub why_at : SessionEnd → Place → Last
+why_at end.Turns place = last.Turns
+why_at end.PageFault place = last.PageFault
+why_at _ place = last_of (machine_at place).ending
+
+-- the answer; a write that failed is told by how the channels grew
+abbrev pub answer_of : SessionEnd → Status
+answer_of end.Turns = Turns
+answer_of end.PageFault = PageFault
+answer_of end.LineFault = LineFault
+answer_of _ = Done
+
+-- what was written: the guest's output and the replies, and behind them the report, but where a write failed before
+abbrev pub wrote_at : SessionEnd → Spot → Channels
+wrote_at end.WriteFault spot = writes (machine_at spot.place).output spot.replies
+wrote_at e spot = broken_off spot.replies spot.place spot.steps (why_at e spot.place)
+
+-- Lines were taken, each with pages, and the session ended so behind them, or within the last one.
+pub record Ended (e : SessionEnd) (outside : Outside) (lines : Change (List Text)) (start : Flat) (g : Terms) (status : Status) (grown : Channels) : Type 0 where
+  pub given : List Exchange
+  pub took : Took e lines.before.told lines.after.told (lines_of given)
+  pub asked : Asked e given
+  pub spot : Spot
+  pub stops : StopsAt e outside g (begun start) given spot
+  pub cause : Causes e outside lines
+  pub answer : status ≡ answer_of e
+  pub wrote : grown ≡ wrote_at e spot
+
+-- So it did; of where it stops, and of what it wrote but that it was to Out and Report, nothing is said.
+pub record EndedUntold (e : SessionEnd) (outside : Outside) (lines : Change (List Text)) (status : Status) (grown : Channels) : Type 0 where
+  pub given : List Exchange
+  pub took : Took e lines.before.told lines.after.told (lines_of given)
+  pub asked : Asked e given
+  pub cause : Causes e outside lines
+  pub answer : status ≡ answer_of e
+  pub unrecorded : grown.recorded ≡ []
+
+-- It went so; where the page file doesn't tell its contents, the flat machine isn't spoken of.
+abbrev pub WentFrom : Option BlockFile → Outside → Change (List Text) → Flat → Terms → Status → Channels → Type 0
+WentFrom None outside lines start g status grown = (e : SessionEnd) × EndedUntold e outside lines status grown
+WentFrom (Some file) outside lines start g status grown = (e : SessionEnd) × Ended e outside lines start g status grown
+
+abbrev pub Went : Outside → Change (List Text) → Flat → Terms → Status → Channels → Type 0
+Went outside lines start g status grown = WentFrom outside.pages.before.told outside lines start g status grown

@@ -1,0 +1,3 @@
+pub mod Course
+pub mod Debugging
+pub use Rattle.vax_debug_session.specs.declared.SessionEnd

@@ -1,0 +1,197 @@
+-- What one line comes to.
+use Rattle.std.proofs.Common.{◌≡◌, ℕ, ◌||◌, Bool, true, false, List, [], ◌∷◌, ◌++◌, append-nil, Option, None, Some, option_map, Result, Ok, Err, refl, sym, ap, subst, ◌∙◌, inl, inr}
+use Rattle.vax_outside.specs.Channels.{Grew, GrewByPrefix, only}
+use Rattle.vax_outside.specs.Blocks.{BlockFile}
+use Rattle.vax_outside.specs.Channels.{Channels}
+use Rattle.vax_outside.specs.declared.traits.Chan.TheVariants.{Report}
+use Rattle.vax_flat.specs.Step.{Flat}
+use Rattle.vax_input.specs.Lines.{IsAtEnd, Takes}
+use Rattle.vax_machine.specs.declared.engine.Engine.{Engine}
+use Rattle.vax_console.specs.Transcript.{Session}
+use Rattle.vax_console.specs.Ends.{Scene, scene}
+use Rattle.vax_debug_acts.specs.Sessions.{IsHere, Origin}
+use Rattle.vax_debug_acts.specs.Failure.{Failure}
+use Rattle.vax_debug_acts.specs.Failure.TheVariants as failure
+use Rattle.vax_debug_names.specs.declared.Symbol.{Symbol}
+use Rattle.vax_debug_words.specs.Requests.{line_of}
+use Rattle.vax_debug_words.specs.declared.request.Line.{Line}
+use Rattle.vax_debug_words.specs.declared.request.Line.TheVariants.{Blank, Request as Asks, Refused}
+use Rattle.vax_debug_words.specs.declared.request.Request.TheVariants as request
+use Rattle.vax_debug_views.specs.Showing.{Shows}
+use Rattle.vax_debug_acts.specs.Acting.{Act, Acts, ActsFrom, BreaksFrom, IsToldInPart, Tells}
+use Rattle.vax_debug_acts.specs.Acts.{only_told}
+use Rattle.vax_debug_acts.proofs.Telling.{at_told, done, in_part}
+use Rattle.vax_debug_session.specs.Exchanges.{Exchange}
+use Rattle.vax_debug_session.specs.Requests.{Held, answered, held}
+use Rattle.vax_debug_session.specs.Holding.{Holds, Terms, act_of, after_line, breaks_behind, carried_out, held_after, is_quit, prompt, quits, stage, transcript}
+use Rattle.vax_debug_session.specs.Turns.{Answers, CarriesOut, CutsShort, HoldsOn, IsHolding, Quits, end_of}
+use Rattle.vax_debug_session.specs.declared.SessionEnd.{SessionEnd}
+use Rattle.vax_debug_session.specs.declared.SessionEnd.TheVariants as end
+use Rattle.vax_debug_session.proofs.Folding.{none_after, none_told, one_after, one_told, takes_none}
+
+-- what is only shown, is an act of no steps
+
+shows_tells : (r : Result (Unit {0}) Failure) (v w : Scene) (told : Flat → List ℕ) (o : Origin) (s : Session) (replies : List ℕ) → Shows v w r told → IsHere o s replies v → Tells r o s replies (told s.machine) w
+shows_tells (Ok x) v w told o s replies p here =
+    let h = p.stays v.sink o s replies here in
+    record { at = at_told o s replies (told s.machine) w.machine w.file v.sink w.sink h.at (p.replied v.sink o s replies here); between = h.between }
+shows_tells (Err failure.Turns) v w told o s replies p here = absurd (p.replied v.sink o s replies here)
+shows_tells (Err failure.PageFault) v w told o s replies p here =
+    in_part o s replies (told s.machine) w.machine w.file v.sink w.sink (p.stays v.sink o s replies here).at (p.replied v.sink o s replies here)
+shows_tells (Err failure.WriteFault) v w told o s replies p here =
+    in_part o s replies (told s.machine) w.machine w.file v.sink w.sink (p.stays v.sink o s replies here).at (p.replied v.sink o s replies here)
+
+pub shows_acts : (r : Result (Unit {0}) Failure) (turns : ℕ) (v w : Scene) (told : Flat → List ℕ) (o : Origin) (s : Session) (replies : List ℕ) → Shows v w r told → IsHere o s replies v → Acts r turns (only_told s (told s.machine)) o s replies w
+shows_acts r turns v w told o s replies p here = done r turns 0 o s s replies (told s.machine) w (shows_tells r v w told o s replies p here)
+
+-- behind a prompt
+
+pub prompted : (o : Origin) (s : Session) (replies text : List ℕ) (m : Engine) (f : Option BlockFile) (a b : Option Channels) → Grew a b (only Report text) → IsHere o s replies (scene m f a) → IsHere o s (replies ++ text) (scene m f b)
+prompted o s replies text m f a b grew h = record { at = at_told o s replies text m f a b h.at grew; between = h.between }
+
+-- a line was carried out, or cut short
+
+pub carries : (g : Terms) (b new : List ℕ) (line : Exchange) (said : Line) (v w : Scene) (x : Unit {0}) → said ≡ line_of line.line → quits said ≡ false →
+    ActsFrom v w (Ok x) g.limits (carried_out g.limits.steps g.symbols b line said) → BreaksFrom v (Ok x) new (breaks_behind g.symbols b said) → Answers None g b new line v w
+carries g b new line said v w x is going acts breaks = record {
+  going = subst (λ (z : Line). quits z ≡ false) is going;
+  here = λ o s replies h.
+      subst (λ (z : Line). IsHere o (carried_out g.limits.steps g.symbols b line z s).session (replies ++ (carried_out g.limits.steps g.symbols b line z s).reply) w) is
+      (acts o s replies h);
+  stops = λ o s replies h. subst (λ (z : Line). new ≡ breaks_behind g.symbols b z s) is (breaks o s replies h);
+}
+
+cuts_short : (e : Failure) (g : Terms) (b : List ℕ) (line : Exchange) (said : Line) (v w : Scene) → said ≡ line_of line.line → quits said ≡ false →
+    ActsFrom v w (Err e) g.limits (carried_out g.limits.steps g.symbols b line said) → CutsShort e g b line v w
+cuts_short e g b line said v w is going acts = record {
+  going = subst (λ (z : Line). quits z ≡ false) is going;
+  acts = λ o s replies h.
+      subst (λ (z : Line). Acts (Err e) g.limits.turns (carried_out g.limits.steps g.symbols b line z s) o s replies w) is
+      (acts o s replies h);
+}
+
+pub cuts : (e : Failure) (g : Terms) (b new : List ℕ) (line : Exchange) (said : Line) (v w : Scene) → said ≡ line_of line.line → quits said ≡ false →
+    ActsFrom v w (Err e) g.limits (carried_out g.limits.steps g.symbols b line said) → Answers (Some (end_of e)) g b new line v w
+cuts failure.Turns g b new line said v w is going acts = cuts_short failure.Turns g b line said v w is going acts
+cuts failure.PageFault g b new line said v w is going acts = cuts_short failure.PageFault g b line said v w is going acts
+cuts failure.WriteFault g b new line said v w is going acts = cuts_short failure.WriteFault g b line said v w is going acts
+
+pub asks_quit : (g : Terms) (b new : List ℕ) (line : Exchange) (said : Line) (v : Scene) → said ≡ line_of line.line → quits said ≡ true → Answers (Some end.Quit) g b new line v v
+asks_quit g b new line said v is quit = record { quits = subst (λ (z : Line). quits z ≡ true) is quit; same = refl }
+
+-- QUIT does nothing
+quit_act : (limit : ℕ) (symbols : List Symbol) (breaks : List ℕ) (x : Exchange) (l : Line) (s : Session) → quits l ≡ true → carried_out limit symbols breaks x l s ≡ only_told s []
+unfolding answered
+quit_act limit symbols breaks x Blank s e = absurd (cc e)
+quit_act limit symbols breaks x (Asks request.Quit) s e = refl
+quit_act limit symbols breaks x (Asks r) s e = absurd (cc e)
+quit_act limit symbols breaks x (Refused why) s e = absurd (cc e)
+
+-- one line of a session
+
+-- behind a prompt the session is where it was
+abbrev pub Prompts : Terms → Scene → Scene → Type 0
+Prompts g u v = (o : Origin) (s : Session) (replies : List ℕ) → IsHere o s replies u → IsHere o s (replies ++ prompt g.prompts) v
+
+line_carried : (g : Terms) (b new : List ℕ) (line : Exchange) (u v w : Scene) (c d : Option (List (List ℕ))) → Prompts g u v → Takes c d (line.line ∷ []) → CarriesOut g b new line v w → IsHolding g b new 1 (stage u w c d)
+line_carried g b new line u v w c d behind took q = record {
+  lines = line ∷ [];
+  many = refl;
+  took = took;
+  going = ap (λ (z : Bool). z || false) q.going;
+  here = λ o s replies h.
+      let k = q.here o s (replies ++ prompt g.prompts) (behind o s replies h) in
+      subst (λ (z : Held). IsHere o z.session (replies ++ transcript g (held s b) (line ∷ [])) w) (one_after g (held s b) line)
+      (subst (λ (z : List ℕ). IsHere o (after_line g (held s b) line).session z w) (one_told g (held s b) line replies) k);
+  stops = λ o s replies h.
+      q.stops o s (replies ++ prompt g.prompts) (behind o s replies h) ∙ ap (λ (z : Held). z.breaks) (one_after g (held s b) line);
+}
+
+quit_here : (g : Terms) (b : List ℕ) (line : Exchange) (o : Origin) (s : Session) (replies : List ℕ) (v : Scene) → is_quit line ≡ true → IsHere o s (replies ++ prompt g.prompts) v →
+    IsHere o (held_after g (held s b) (line ∷ [])).session ((replies ++ transcript g (held s b) (line ∷ [])) ++ []) v
+quit_here g b line o s replies v quit h =
+    let act : act_of g (held s b) line ≡ only_told s [] = quit_act g.limits.steps g.symbols b line (line_of line.line) s quit in
+    let there : (after_line g (held s b) line).session ≡ s = ap (λ (z : Act). z.session) act in
+    let told : replies ++ prompt g.prompts ≡ (replies ++ transcript g (held s b) (line ∷ [])) ++ [] =
+    sym (append-nil (replies ++ prompt g.prompts))
+    ∙ (ap (λ (z : List ℕ). (replies ++ prompt g.prompts) ++ z) (sym (ap (λ (z : Act). z.reply) act))
+    ∙ (one_told g (held s b) line replies ∙ sym (append-nil (replies ++ transcript g (held s b) (line ∷ []))))) in
+    subst (λ (z : Held). IsHere o z.session ((replies ++ transcript g (held s b) (line ∷ [])) ++ []) v) (one_after g (held s b) line)
+    (subst (λ (z : Session). IsHere o z ((replies ++ transcript g (held s b) (line ∷ [])) ++ []) v) (sym there)
+    (subst (λ (z : List ℕ). IsHere o s z v) told h))
+
+line_quits : (g : Terms) (b : List ℕ) (line : Exchange) (u v w : Scene) (c d : Option (List (List ℕ))) → Prompts g u v → Takes c d (line.line ∷ []) → Quits line v w → Holds g b end.Quit (stage u w c d)
+line_quits g b line u v w c d behind took q = record {
+  lines = line ∷ [];
+  took = took;
+  asked = record { front = []; last = line; splits = refl; going = refl; quits = q.quits };
+  goes = λ o s replies h.
+      subst (λ (z : Scene). IsHere o (held_after g (held s b) (line ∷ [])).session ((replies ++ transcript g (held s b) (line ∷ [])) ++ []) z) (sym q.same)
+      (quit_here g b line o s replies v q.quits (behind o s replies h));
+}
+
+-- where nothing was carried out, what is told behind no line is told
+told_first : (P : Held → List ℕ → Type 0) (g : Terms) (h : Held) (replies : List ℕ) → P h replies → P (held_after g h []) (replies ++ transcript g h [])
+told_first P g h replies p =
+    subst (λ (z : Held). P z (replies ++ transcript g h [])) (none_after g h) (subst (λ (z : List ℕ). P h z) (none_told g h replies) p)
+
+-- an end that a failure makes
+cut_goes : (e : Failure) (g : Terms) (b : List ℕ) (line : Exchange) (u v w : Scene) → Prompts g u v → CutsShort e g b line v w → (o : Origin) (s : Session) (replies : List ℕ) → IsHere o s replies u →
+    Acts (Err e) g.limits.turns (act_of g (held_after g (held s b) []) line) o (held_after g (held s b) []).session ((replies ++ transcript g (held s b) []) ++ prompt g.prompts) w
+cut_goes e g b line u v w behind q o s replies h =
+    told_first (λ z told. Acts (Err e) g.limits.turns (act_of g z line) o z.session (told ++ prompt g.prompts) w) g (held s b) replies
+    (q.acts o s (replies ++ prompt g.prompts) (behind o s replies h))
+
+pub line_holds : (r : Option SessionEnd) (g : Terms) (b new : List ℕ) (line : Exchange) (u v w : Scene) (c d : Option (List (List ℕ))) → Prompts g u v → Takes c d (line.line ∷ []) → Answers r g b new line v w → HoldsOn r g b new (stage u w c d)
+line_holds None g b new line u v w c d behind took q = line_carried g b new line u v w c d behind took q
+line_holds (Some end.Quit) g b new line u v w c d behind took q = line_quits g b line u v w c d behind took q
+line_holds (Some end.Read) g b new line u v w c d behind took q = absurd q
+line_holds (Some end.Lines) g b new line u v w c d behind took q = absurd q
+line_holds (Some end.Turns) g b new line u v w c d behind took q = record {
+  lines = line ∷ [];
+  took = took;
+  asked = ap (λ (z : Bool). z || false) q.going;
+  goes = λ o s replies h. record { front = []; last = line; splits = refl; acts = cut_goes failure.Turns g b line u v w behind q o s replies h };
+}
+line_holds (Some end.PageFault) g b new line u v w c d behind took q = record {
+  lines = line ∷ [];
+  took = took;
+  asked = ap (λ (z : Bool). z || false) q.going;
+  goes = λ o s replies h. record { front = []; last = line; splits = refl; acts = cut_goes failure.PageFault g b line u v w behind q o s replies h };
+}
+line_holds (Some end.WriteFault) g b new line u v w c d behind took q = record {
+  lines = line ∷ [];
+  took = took;
+  asked = ap (λ (z : Bool). z || false) q.going;
+  goes = λ o s replies h. inl (record { front = []; last = line; splits = refl; acts = cut_goes failure.WriteFault g b line u v w behind q o s replies h });
+}
+line_holds (Some end.LineFault) g b new line u v w c d behind took q = absurd q
+
+-- the prompt wasn't written whole
+pub unprompted : (g : Terms) (b new : List ℕ) (m : Engine) (f : Option BlockFile) (x y : Option Channels) (c : Option (List (List ℕ))) → GrewByPrefix x y (only Report (prompt g.prompts)) → HoldsOn (Some end.WriteFault) g b new (stage (scene m f x) (scene m f y) c c)
+unprompted g b new m f x y c grew = record {
+  lines = [];
+  took = takes_none c;
+  asked = refl;
+  goes = λ o s replies h.
+      inr (told_first (λ z told. IsToldInPart o z.session told (prompt g.prompts) (scene m f y)) g (held s b) replies
+      (in_part o s replies (prompt g.prompts) m f x y h.at grew));
+}
+
+-- no line is left
+pub all_read : (g : Terms) (b new : List ℕ) (u v : Scene) (c d : Option (List (List ℕ))) → Prompts g u v → IsAtEnd c d → HoldsOn (Some end.Read) g b new (stage u v c d)
+all_read g b new u v c d behind ended = record {
+  lines = [];
+  took = (subst (λ (z : Option (List (List ℕ))). Takes z d []) ended.same (takes_none d), record { none = subst (λ (z : Option (List (List ℕ))). z ≡ option_map (λ (more : List (List ℕ)). []) z) (sym ended.same) ended.none; same = refl });
+  asked = refl;
+  goes = λ o s replies h. told_first (λ z told. IsHere o z.session (told ++ prompt g.prompts) v) g (held s b) replies (behind o s replies h);
+}
+
+-- a line couldn't be read
+pub unread : (g : Terms) (b new : List ℕ) (u v : Scene) (c d : Option (List (List ℕ))) → Prompts g u v → HoldsOn (Some end.LineFault) g b new (stage u v c d)
+unread g b new u v c d behind = record {
+  lines = [];
+  took = (c, takes_none c);
+  asked = refl;
+  goes = λ o s replies h. told_first (λ z told. IsHere o z.session (told ++ prompt g.prompts) v) g (held s b) replies (behind o s replies h);
+}
