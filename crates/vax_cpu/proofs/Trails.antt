@@ -1,5 +1,5 @@
 -- From the accesses that a transaction made to those of an attempt.
-use Rattle.std.proofs.Common.{◌≡◌, ℕ, Bool, Some, Result, Ok, Err, List, [], ◌∷◌, ◌++◌, refl, ap, sym, subst, ◌∙◌}
+use Rattle.std.proofs.Common.{◌≡◌, ℕ, Bool, Result, Ok, Err, List, [], ◌∷◌, ◌++◌, refl, ap, sym, subst, ◌∙◌}
 use Rattle.std.specs.Prelude.{All, IfSome}
 use Rattle.std.proofs.lemmas.List.Elements.{All-nil, All-cons, All-append}
 use Rattle.vax_word.specs.declared.Core.{Core}
@@ -29,7 +29,7 @@ use Rattle.vax_cpu.specs.declared.attempt.Tried.TheVariants as tried
 use Rattle.vax_cpu.specs.declared.cpu.Attempt.TheVariants.{Step, Part, Absent, Ended}
 use Rattle.vax_cpu.specs.Attempt.{answer_of}
 use Rattle.vax_cpu.specs.Tried.{IsFinal, IsTried}
-use Rattle.vax_cpu.specs.Trail.{AtOnce, Completes, Delivered, EndsRun, IsPutBack, IsWrite, Stops, Traces, TracesTried, Trailed, TrailedTried, noted_all, raised_at, traced_of}
+use Rattle.vax_cpu.specs.Trail.{AtOnce, Completes, Delivered, EndsRun, IsPutBack, IsWrite, Stops, TracesTried, Trailed, TrailedTried, noted_all, raised_at, traced_of}
 
 -- what a call of a transaction follows, with the accesses left aside
 pub plain : {P : Type 0} (view : P → View) (trail : P → Trail) (tree : State → (Flow → State → Accesses Leaf) → Accesses Leaf) (r : Result Flow CutShort) (old new : Transaction P) → Does view trail tree r old new → Follows (tree (present view old).state) (present view old) (told new r) (present view new)

@@ -10,6 +10,7 @@ ghost use Rattle.vax_x_str.specs.Ends.{ClosesIfDone};
 use vax_flat::Exception;
 use vax_isa::{Action, action};
 use vax_operand::{Cut, Flow, fetch};
+use vax_quick::{calls, fields, flow, integers};
 use vax_undo::{CutShort, Port, Txn};
 use vax_x_str::Scratch;
 
@@ -45,12 +46,12 @@ fn act_any<P: Port>(
     ensures same { IsSame P.since txn.old txn.new }
 {
     match action {
-        Action::Integer(instruction) => noted(vax_x_int::run(txn, instruction), other),
-        Action::Control(instruction) => noted(vax_x_flow::run(txn, instruction), other),
+        Action::Integer(instruction) => noted(integers::run(txn, instruction), other),
+        Action::Control(instruction) => noted(flow::run(txn, instruction), other),
         Action::System(instruction) => noted(vax_x_sys::run(txn, instruction), other),
-        Action::Call(instruction) => noted(vax_x_call::run(txn, instruction), other),
+        Action::Call(instruction) => noted(calls::run(txn, instruction), other),
         Action::Queue(instruction) => noted(vax_x_queue::run(txn, instruction), other),
-        Action::Field(instruction) => noted(vax_x_field::run(txn, instruction), other),
+        Action::Field(instruction) => noted(fields::run(txn, instruction), other),
         Action::Text(text) => noted(vax_x_str::start(txn, text, scratch), other),
     }
 }
@@ -72,8 +73,8 @@ fn act<P: Port>(
     ensures same { IsSame P.since txn.old txn.new }
 {
     match action {
-        Action::Integer(instruction) => noted(vax_x_int::run(txn, instruction), other),
-        Action::Control(instruction) => noted(vax_x_flow::run(txn, instruction), other),
+        Action::Integer(instruction) => noted(integers::run(txn, instruction), other),
+        Action::Control(instruction) => noted(flow::run(txn, instruction), other),
         _ => act_any(txn, action, other, scratch),
     }
 }

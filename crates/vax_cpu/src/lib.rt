@@ -8,3 +8,4 @@ mod interrupt;
 
 pub use crate::cpu::{Attempt, Batch, Cpu, Open};
 pub use crate::instruction::execute;
+pub use vax_quick::{is_still, run as run_at_once};

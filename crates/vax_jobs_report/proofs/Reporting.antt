@@ -5,7 +5,7 @@ use Rattle.std.specs.List.{flat_map, range_with_len}
 use Rattle.std.specs.Option.{option_map, option_map_or}
 use Rattle.std.proofs.lemmas.Option.{slice_get-map}
 use Rattle.vax_outside.specs.Blocks.{BlockFile}
-use Rattle.vax_cpu.specs.Attempt.{open_at}
+use Rattle.vax_machine.specs.Attempt.{open_at}
 use Rattle.vax_flat.specs.Parts.{Place, At, Within, units_done}
 use Rattle.vax_jobs.proofs.Marks.{count_is, mark_at}
 use Rattle.vax_jobs.proofs.Rooms.{found}

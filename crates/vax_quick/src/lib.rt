@@ -22,3 +22,7 @@ mod step;
 mod window;
 
 pub use crate::step::{is_still, run};
+pub use vax_x_call as calls;
+pub use vax_x_field as fields;
+pub use vax_x_flow as flow;
+pub use vax_x_int as integers;

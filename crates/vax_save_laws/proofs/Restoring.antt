@@ -8,8 +8,8 @@ use Rattle.vax_space.specs.declared.Area.{Area}
 use Rattle.vax_flat.specs.Memory.{IsWhole}
 use Rattle.vax_flat.specs.Parts.{Place, At, Within, machine_at}
 use Rattle.vax_flat.specs.Step.{Flat}
-use Rattle.vax_cpu.specs.Attempt.{open_at as open_instruction}
-use Rattle.vax_cpu.specs.declared.cpu.Open.{Open}
+use Rattle.vax_machine.specs.Attempt.{open_at as open_instruction}
+use Rattle.vax_machine.specs.Open.{Open}
 use Rattle.vax_save.specs.Restored.{restored_place}
 use Rattle.vax_save.specs.Restoring.{Contents, contents_at, ended, is_string, open_at, opens_wrongly, restored, state_of}
 use Rattle.vax_save.specs.Saved.{core_field, heading, input_field, longword, memory_field, no_opcode, quadword, registers_field, saved, word}

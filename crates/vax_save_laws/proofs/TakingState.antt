@@ -6,7 +6,7 @@ use Rattle.std.proofs.lemmas.Bool.{eqb-true}
 use Rattle.std.proofs.lemmas.List.{nil_from_length}
 use Rattle.byteorder.specs.Endian.{little_bytes}
 use Rattle.vax_word.specs.declared.Core.{Core}
-use Rattle.vax_cpu.specs.declared.cpu.Open.{Open}
+use Rattle.vax_machine.specs.Open.{Open}
 use Rattle.vax_save.specs.declared.SaveError.{SaveError}
 use Rattle.vax_save.specs.Restored.{restored_place}
 use Rattle.vax_save.specs.Restoring.{Behind, Contents, Cursor, behind_at, contents_at, control_at, core_at, ended, is_opcode_wrong, is_overdone, open_at, restored, Restored, state_of, status_at}

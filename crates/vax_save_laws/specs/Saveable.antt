@@ -5,8 +5,8 @@ use Rattle.vax_word.specs.Status.{is_one}
 use Rattle.vax_space.specs.Faults.{IsSpace}
 use Rattle.vax_flat.specs.Memory.{IsWhole}
 use Rattle.vax_flat.specs.Parts.{Place, machine_at}
-use Rattle.vax_cpu.specs.Attempt.{open_at}
-use Rattle.vax_cpu.specs.declared.cpu.Open.{Open}
+use Rattle.vax_machine.specs.Attempt.{open_at}
+use Rattle.vax_machine.specs.Open.{Open}
 use Rattle.vax_save.specs.Restoring.{Restored, has_wrong_bits, is_overdone, is_string}
 
 abbrev pub IsLong : ℕ → Type 0

@@ -13,7 +13,7 @@ use Rattle.vax_flat.specs.declared.Ending.{Ending}
 use Rattle.vax_flat.specs.Memory.{byte_at}
 use Rattle.vax_flat.specs.Parts.{Place, At, Within, GoesBy, machine_at}
 use Rattle.vax_flat.specs.Step.{Flat, run}
-use Rattle.vax_cpu.specs.Attempt.{open_at}
+use Rattle.vax_machine.specs.Attempt.{open_at}
 use Rattle.vax_pager.specs.Calls.{IsByte}
 use Rattle.vax_pager.specs.Listing.{is_listed}
 use Rattle.vax_pager.specs.Meaning.{pages}
