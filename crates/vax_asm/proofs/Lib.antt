@@ -4,3 +4,4 @@ pub mod Pieces
 pub mod Statements
 pub mod Within
 pub mod Words
+pub mod Refused

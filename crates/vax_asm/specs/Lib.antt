@@ -3,3 +3,4 @@ pub mod Sound
 pub mod Walk
 pub mod View
 pub mod PlacingView
+pub mod Refusal

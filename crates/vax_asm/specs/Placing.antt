@@ -1,7 +1,7 @@
 -- What a statement does (VAX MACRO and Instruction Set Reference Manual, "VAX MACRO source statement format").
 use Rattle.std.specs.Prelude.{ℕ, ◌^◌, ◌-◌, Bool, true, false, nat_lt, if◌then◌else◌, List, map, Option, Some, None, Result, Ok, Err}
 use Rattle.std.specs.List.{list_all, list_any}
-use Rattle.vax_asm_data.specs.Data.{Plain, Counted_first, Zero_last, data_stated, addresses_stated, text_stated, space_stated, align_stated, even_stated, odd_stated}
+use Rattle.vax_asm_data.specs.Data.{Plain, Counted_first, Zero_last, Described, data_stated, addresses_stated, text_stated, space_stated, align_stated, even_stated, odd_stated}
 use Rattle.vax_asm_instruction.specs.Stating.{instruction_stated, reference_stated}
 use Rattle.vax_dialect.specs.declared.Dialect.{Dialect}
 use Rattle.vax_isa.specs.Instructions.{Instruction}
@@ -15,6 +15,8 @@ use Rattle.vax_lex.specs.declared.token.TokenKind.{TokenKind}
 use Rattle.vax_lex.specs.declared.token.TokenKind.TheVariants.{Number}
 use Rattle.vax_macro.specs.declared.error.FaultKind.{FaultKind}
 use Rattle.vax_macro.specs.declared.error.FaultKind.TheVariants as fault
+use Rattle.vax_asm_labels.specs.Contexts.{restored_stated, saved_stated}
+use Rattle.vax_asm_labels.specs.Defaults.{default_stated}
 use Rattle.vax_asm_labels.specs.Functions.{functions_stated}
 use Rattle.vax_asm_labels.specs.Naming.{Assigned, label_stated, assignment_stated, section_stated, entry_stated, names_stated, end_stated}
 use Rattle.vax_asm_first.specs.Faults.{first_of}
@@ -73,7 +75,8 @@ directed directive.Address origin line tokens s = addresses_stated origin line t
 directed directive.Text origin line tokens s = text_stated Plain origin line tokens s
 directed directive.CountedText origin line tokens s = text_stated Counted_first origin line tokens s
 directed directive.ZeroText origin line tokens s = text_stated Zero_last origin line tokens s
-directed (directive.Space size) origin line tokens s = space_stated size origin line tokens s
+directed directive.DescribedText origin line tokens s = text_stated Described origin line tokens s
+directed (directive.Space kind) origin line tokens s = space_stated kind origin line tokens s
 directed (directive.Reference size) origin line tokens s = reference_stated size origin line tokens s
 directed directive.Align origin line tokens s = align_stated origin line tokens s
 directed directive.Even origin line tokens s = even_stated tokens s
@@ -82,6 +85,9 @@ directed directive.Global origin line tokens s = names_stated true line tokens s
 directed directive.External origin line tokens s = names_stated false line tokens s
 directed directive.Enable origin line tokens s = functions_stated true line tokens s
 directed directive.Disable origin line tokens s = functions_stated false line tokens s
+directed directive.Default origin line tokens s = default_stated line tokens s
+directed directive.Save origin line tokens s = saved_stated line tokens s
+directed directive.Restore origin line tokens s = restored_stated tokens s
 directed directive.Listing origin line tokens s = Ok s
 directed directive.End origin line tokens s = end_stated line tokens s
 
@@ -174,4 +180,4 @@ placed_as origin line pieces p s =
     else (if list_any is_bad pieces then Faulty fault.Token None else if_wide (list_any is_wide pieces) (stated origin line p s))
 
 unfoldable pub placed : Origin → List ℕ → Standing → Placed
-placed origin line s = let pieces = pieces_of line in placed_as origin line pieces (parsed (map token_of pieces)) s
+placed origin line s = let pieces = pieces_of s.dialect line in placed_as origin line pieces (parsed (map token_of pieces)) s

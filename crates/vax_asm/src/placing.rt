@@ -19,10 +19,12 @@ use std::rc::Rc;
 use vax_asm_data::{TextForm, addresses, align, data, even, odd, space, text};
 use vax_asm_first::{Assignment, Origin, Refused, Standing, first_of};
 use vax_asm_instruction::reference;
-use vax_asm_labels::{assignment, end, entry, functions, label, names, section};
+use vax_asm_labels::{
+    assignment, default, end, entry, functions, label, names, restore, save, section,
+};
 use vax_asm_statement::{Body, Directive, Statement, read_statement, text_of};
 use vax_dialect::Dialect;
-use vax_lex::{Piece, Token};
+use vax_lex::{Piece, Token, pieces};
 use vax_macro::{FaultKind, Line};
 use vax_space::NoMemory;
 
@@ -64,7 +66,15 @@ fn direct(
             operands,
         ),
         Directive::ZeroText => text(standing, alloc, origin, line, TextForm::ZeroLast, operands),
-        Directive::Space(size) => space(standing, alloc, origin, line, size, operands),
+        Directive::DescribedText => text(
+            standing,
+            alloc,
+            origin,
+            line,
+            TextForm::DescriptorFirst,
+            operands,
+        ),
+        Directive::Space(kind) => space(standing, alloc, origin, line, kind, operands),
         Directive::Reference(size) => reference(standing, alloc, origin, line, size, operands),
         Directive::Align => align(standing, alloc, origin, line, operands),
         Directive::Even => even(standing, operands),
@@ -73,6 +83,9 @@ fn direct(
         Directive::External => names(standing, alloc, line, false, operands),
         Directive::Enable => functions(standing, alloc, line, true, operands),
         Directive::Disable => functions(standing, alloc, line, false, operands),
+        Directive::Default => default(standing, alloc, line, operands),
+        Directive::Save => save(standing, alloc, line, operands),
+        Directive::Restore => restore(standing, alloc, operands),
         Directive::Listing => Ok(()),
         Directive::End => end(standing, alloc, line, operands),
     }
@@ -244,7 +257,7 @@ fn state(
 }
 
 /// Whether the rest of the line may hold anything.
-fn is_listing(dialect: Dialect, line: &[u8], body: Body<'_>) -> bool
+pub(crate) fn is_listing(dialect: Dialect, line: &[u8], body: Body<'_>) -> bool
     requires within { WhatWithin line.now (body_seen body) }
     ensures { result ≡ is_listing dialect line.now (body_seen body.entry) }
 {
@@ -306,8 +319,9 @@ fn carry_out(
 
 /// The tokens of a statement.
 #[tactic(auto, using(crate::proofs::Within::few_tokens))]
-fn read(alloc: Global, said: &Line) -> Result<Vec<Token>, NoMemory>
-    ensures tokens { IfOk result (λ v. v.items ≡ map token_of (pieces_of said.now.text.items)) }
+pub(crate) fn read(alloc: Global, said: &Line) -> Result<Vec<Token>, NoMemory>
+    ensures tokens { IfOk result
+        (λ v. v.items ≡ map token_of (pieces_of said.now.dialect said.now.text.items)) }
     ensures within { IfOk result (λ v. All (IsTokenOf said.now.text.items) v.items) }
     ensures few { IfOk result (λ v. length v.items ≤ length said.now.text.items) }
 {
@@ -316,7 +330,7 @@ fn read(alloc: Global, said: &Line) -> Result<Vec<Token>, NoMemory>
 }
 
 /// The statement that the tokens of a line are.
-fn statement_of<'a>(tokens: &'a [Token]) -> Statement<'a>
+pub(crate) fn statement_of<'a>(tokens: &'a [Token]) -> Statement<'a>
     requires few { length tokens.now ≤ 1024 }
     ensures statement { statement_seen result ≡ parsed tokens.now }
     ensures within { (line : List ℕ) →
@@ -324,6 +338,24 @@ fn statement_of<'a>(tokens: &'a [Token]) -> Statement<'a>
     ensures sound { IsSound (2 ^ 32 - 1) (statement_seen result) }
 {
     read_statement(tokens)
+}
+
+/// A line whose pieces are those in a dialect: it is cut anew where it was one of the other.
+fn line_in(alloc: Global, dialect: Dialect, said: Line) -> Result<Line, NoMemory>
+    ensures text { IfOk result (λ l. l.text.items ≡ said.text.items) }
+    ensures dialect { IfOk result (λ l. l.dialect ≡ dialect) }
+{
+    if said.dialect == dialect {
+        return Ok(said);
+    }
+    let Line { number, text, .. } = said;
+    let pieces = pieces(alloc, dialect, &text).map_err(|_| NoMemory)?;
+    Ok(Line {
+        dialect,
+        number,
+        text,
+        pieces,
+    })
 }
 
 /// Carries out a statement, from what stands before it. `assignments` are those that have no value yet. Behind a fault that ends
@@ -343,6 +375,7 @@ pub fn place(
     ensures { Places (placed origin said.text.items) result
         (assembly_of standing.old assignments.old) (assembly_of standing.new assignments.new) }
 {
+    let said = line_in(alloc, standing.dialect, said)?;
     let tokens = read(alloc, &said)?;
     let Line { text, pieces, .. } = said;
     let Ok(line) = Rc::new(alloc, text) else {

@@ -4,6 +4,7 @@ use Rattle.std.specs.List.{list_any, position_from}
 use Rattle.std.specs.Str.{str_eq_ignore_ascii_case}
 use Rattle.vax_asm_causes.specs.declared.places.Sought.{Sought}
 use Rattle.vax_asm_causes.specs.declared.places.Sought.TheVariants.{Anywhere, Definition}
+use Rattle.vax_dialect.specs.declared.Dialect.TheVariants.{Vax}
 use Rattle.vax_lex.specs.Tokens.{pieces_of}
 use Rattle.vax_lex.specs.declared.token.Piece.{Piece}
 use Rattle.vax_lex.specs.declared.token.PieceKind.{PieceKind}
@@ -11,9 +12,10 @@ use Rattle.vax_lex.specs.declared.token.PieceKind.TheVariants.{Token}
 use Rattle.vax_lex.specs.declared.token.TokenKind.TheVariants.{Name, Mark}
 use Rattle.vax_lines.specs.Lines.{Text, lines}
 
--- the pieces of a line, of a long one those of its front
+-- The pieces of a line, of a long one those of its front. They are cut as in the smaller dialect, so what is told of `.ASCID` takes its
+-- texts for tokens.
 abbrev pub line_pieces : Text → List Piece
-line_pieces line = pieces_of (take 1024 line)
+line_pieces line = pieces_of Vax (take 1024 line)
 
 -- the bytes of a piece
 unfoldable pub piece_text : Text → Piece → Text

@@ -5,6 +5,7 @@ ghost use Rattle.vax_asm_causes.specs.Places.{is_mark, is_name, line_pieces, pie
 ghost use Rattle.vax_asm_causes.specs.Remarks.{operation_of, without_mark};
 
 use std::alloc::Global;
+use vax_dialect::Dialect;
 use vax_lex::{Piece, PieceKind, TokenKind, pieces};
 use vax_space::NoMemory;
 
@@ -23,7 +24,7 @@ fn front(line: &[u8], count: usize) -> &[u8]
 pub(crate) fn pieces_of(alloc: Global, line: &[u8]) -> Result<Vec<Piece>, NoMemory>
     ensures { IfOk result (λ v. v.items ≡ line_pieces line.now) }
 {
-    match pieces(alloc, front(line, LONGEST)) {
+    match pieces(alloc, Dialect::Vax, front(line, LONGEST)) {
         Ok(all) => Ok(all),
         Err(_) => Err(NoMemory),
     }

@@ -6,8 +6,7 @@ use Rattle.std.proofs.lemmas.Bool.{le-ltb}
 use Rattle.vax_asm.specs.Walk.{assembled, nothing}
 use Rattle.vax_asm_check.proofs.Ascending.{survey_ascends}
 use Rattle.vax_asm_check.proofs.Ranking.{begins_least}
-use Rattle.vax_asm_check.specs.Listed.{AreAll, AreFirst, AreFront, Ascend, BeginAt, StandsBefore, StandsBeforeAll}
-use Rattle.vax_asm_check.specs.declared.told.Limits.{Limits}
+use Rattle.vax_asm_check.specs.Listed.{AreAll, Ascend, BeginAt, StandsBefore, StandsBeforeAll}
 use Rattle.vax_asm_faults.proofs.Leasting.{first_is_least}
 use Rattle.vax_asm_faults.proofs.Ordering.{earlier_less}
 use Rattle.vax_asm_faults.proofs.Refusing.{refused_first}
@@ -86,16 +85,7 @@ all_begin (h ∷ more) whole told all m f is up a e =
     let b = lines_begin h more (least all.whole) m f up (ap (λ (l : List Fault). unless_none (or_else (first_line None l) (least all.whole)) m) (sym is) ∙ e) in
     record { first = h; more = more ++ a.whole; is = a.joined ∙ ap (λ (l : List Fault). l ++ a.whole) is; origin = b.0; kind = b.1 }
 
-front_begin : (told : List Fault) (most : Limits) (all : Faults) (m : Module) (f : Fault) → 1 ≤ most.faults → Ascend all.lines → AreFront most told all → unless_faulty (first_fault all) m ≡ Err f → BeginAt f told
-front_begin [] most all m f some up a e = absurd (omega (arith, a.many, some))
-front_begin (h ∷ told) most all m f some up a e =
-    let is : all.lines ≡ h ∷ (told ++ a.more) = sym a.joined in
-    let b = lines_begin h (told ++ a.more) (least all.whole) m f (subst Ascend is up) (ap (λ (l : List Fault). unless_none (or_else (first_line None l) (least all.whole)) m) (sym is) ∙ e) in
-    record { first = h; more = told; is = refl; origin = b.0; kind = b.1 }
-
-by_all : (told : List Fault) (most : Limits) (all : Faults) (m : Module) (f : Fault) → 1 ≤ most.faults → Ascend all.lines → AreFirst most told all → unless_faulty (first_fault all) m ≡ Err f → BeginAt f told
-by_all told most all m f some up (inl a) e = all_begin all.lines all.whole told all m f refl up a e
-by_all told most all m f some up (inr a) e = front_begin told most all m f some up a e
-
-pub begin_refused : (dialect : Dialect) (source : List ℕ) (most : Limits) (told : List Fault) (f : Fault) → 1 ≤ most.faults → AreFirst most told (faults_of dialect source) → assembled dialect source ≡ Err f → BeginAt f told
-begin_refused dialect source most told f some a e = by_all told most (faults_of dialect source) (module_behind (survey_of dialect source)) f some (lines_ascend dialect source) a (sym (refused_first dialect source) ∙ e)
+pub begin_refused : (dialect : Dialect) (source : List ℕ) (told : List Fault) (f : Fault) → AreAll told (faults_of dialect source) → assembled dialect source ≡ Err f → BeginAt f told
+begin_refused dialect source told f a e =
+    let all = faults_of dialect source in
+    all_begin all.lines all.whole told all (module_behind (survey_of dialect source)) f refl (lines_ascend dialect source) a (sym (refused_first dialect source) ∙ e)

@@ -70,5 +70,14 @@ goes_faulty o text a b ended fs circle kind next n is left c =
     (ap (λ (q : Placed). left_by q a) is ∙ sym left) (ap (λ (q : Placed). line_ended q o.place) is)
     ∙ ap (λ (l : List Fault). with_faults l (next b (Some o.place))) (sym (append_assoc fs (f ∷ []) circle))
 
+-- a statement that its text alone refuses
+pub goes_refused : (o : Origin) (text : List ℕ) (a : Assembly) (ended : Option ℕ) (fs : List Fault) (kind : FaultKind) (next : Onward) → is_ended ended o.place ≡ false
+    → placed o text a.standing ≡ Faulty kind None
+    → with_faults fs (stated o text a ended next) ≡ with_faults (fs ++ record { origin = o; kind = kind } ∷ []) (next a (Some o.place))
+goes_refused o text a ended fs kind next n is =
+    let p = placed o text a.standing in
+    ap (with_faults fs) (here o text a ended next n)
+    ∙ carried_on p o a a fs (record { origin = o; kind = kind } ∷ []) (Some o.place) next (ap (λ (q : Placed). statement_faults q o a.assignments) is) (ap (λ (q : Placed). left_by q a) is) (ap (λ (q : Placed). line_ended q o.place) is)
+
 pub same_assembly : (a : Assembly) (standing : Standing) (assignments : List Assignment) → standing ≡ a.standing → assignments ≡ a.assignments → record { standing = standing; assignments = assignments } ≡ a
 same_assembly a standing assignments e f = rw (e, f) refl

@@ -1,7 +1,6 @@
 pub mod Ascending
 pub mod Beginning
 pub mod Circling
-pub mod Counting
 pub mod Going
 pub mod Ranking
 pub mod Restating

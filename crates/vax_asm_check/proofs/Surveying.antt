@@ -1,12 +1,11 @@
 -- A survey by single steps is one by the statements that they open.
-use Rattle.std.proofs.Common.{◌≡◌, ◌≤◌, inl, inr, ℕ, Bool, true, false, zero, suc, List, [], ◌∷◌, ◌++◌, length, Option, None, refl, sym, ap, subst, ◌∙◌, append-nil, arith}
-use Rattle.std.specs.Prelude.{IfOk, Result, Ok, Err, if◌then◌else◌}
+use Rattle.std.proofs.Common.{◌≡◌, ℕ, zero, suc, List, [], ◌∷◌, ◌++◌, Option, None, refl, sym, ap, subst, ◌∙◌, append-nil, arith}
+use Rattle.std.specs.Prelude.{IfOk, OnOk, Result, Ok, Err, if◌then◌else◌}
 use Rattle.vax_asm.specs.Walk.{Assembly, at, names_in, nothing}
 use Rattle.std.proofs.lemmas.List.Sorted.{IsPermutation-refl}
-use Rattle.vax_asm_check.specs.Listed.{AreAll, AreFirst, AreFound, AreFront, IsInOrder, lines_up_to}
+use Rattle.vax_asm_check.specs.Listed.{AreAll, IsInOrder}
 use Rattle.vax_asm_check.specs.Restating.{resumed}
-use Rattle.vax_asm_check.specs.declared.told.Limits.{Limits}
-use Rattle.vax_asm_faults.specs.Refusal.{Faults as AllFaults, faults_in, faults_of, whole_faults}
+use Rattle.vax_asm_faults.specs.Refusal.{faults_in, faults_of, whole_faults}
 use Rattle.vax_asm_faults.specs.Survey.{Onward, Survey, is_ended, onward, stated, survey, survey_of, with_faults}
 use Rattle.vax_asm_second.specs.declared.types.Fault.{Fault}
 use Rattle.vax_dialect.specs.declared.Dialect.{Dialect}
@@ -50,22 +49,13 @@ pub if_ok : {A E : Type 0} {P Q : A → Type 0} (r : Result A E) → ((x : A) �
 if_ok (Ok x) h p = h x p
 if_ok (Err e) h p = tt
 
--- what was found before the rest is read
-pub first_found : (dialect : Dialect) (source : List ℕ) (most : Limits) (fs : List Fault) (s : Survey) → most.faults ≤ length fs → most.lines ≤ lines_up_to fs → with_faults fs s ≡ survey_of dialect source → AreFront most fs (faults_of dialect source)
-first_found dialect source most fs s many far is = record {
-  more = s.faults;
-  joined = ap (λ (t : Survey). t.faults) is;
-  many = many;
-  far = far;
-}
+pub on_ok : {A E P Q : Type 0} (r : Result A E) → (P → Q) → OnOk r P → OnOk r Q
+on_ok (Ok x) h p = h p
+on_ok (Err e) h p = tt
 
 -- all of them
 pub all_found : (dialect : Dialect) (source : List ℕ) (list : List Fault) (s : Survey) → AreAll list (faults_in s) → s ≡ survey_of dialect source → AreAll list (faults_of dialect source)
 all_found dialect source list s all is = subst (λ (t : Survey). AreAll list (faults_in t)) is all
-
-pub found_all : (b : Bool) (most : Limits) (list : List Fault) (all : AllFaults) → (b ≡ true) × AreAll list all → AreFound b most list all
-found_all true most list all h = h.1
-found_all false most list all h = absurd (let no : false ≡ true = h.0 in cc no)
 
 -- those of the lines, and behind them those of the whole source in order
 pub ended_all : (fs found told list : List Fault) (s : Survey) → s.faults ≡ [] → whole_faults s ≡ found → IsInOrder found told → list ≡ fs ++ told → AreAll list (faults_in (with_faults fs s))
@@ -96,8 +86,3 @@ pub stopped_found : {E : Type 0} (r : Result (Vec Fault) E) (u : Option Opening)
     → (o : Opened) → FaultIs u read line kind o → IfOk r (λ v. AreAll v.items (faults_in (with_faults fs (resumed o a ended))))
 stopped_found r u fs read line place kind a ended none same h o is =
     subst (λ (p : Opened). IfOk r (λ v. AreAll v.items (faults_in (with_faults fs (resumed p a ended))))) (sym (stopped_on u read line place kind o none same is)) h
-
--- what was found are all, or the first
-pub are_first : (b : Bool) (most : Limits) (told : List Fault) (all : AllFaults) → AreFound b most told all → AreFirst most told all
-are_first true most told all h = inl h
-are_first false most told all h = inr h

@@ -1,8 +1,7 @@
 -- All faults of a source in one list, and the first of them (VAX MACRO and Instruction Set Reference Manual, "Diagnostic messages").
-use Rattle.std.specs.Prelude.{◌≡◌, ◌<◌, ◌≤◌, ◌⊎◌, ◌+◌, ◌==◌, ◌&&◌, ℕ, Bool, true, false, List, [], ◌∷◌, ◌++◌, length, slice_index_or}
+use Rattle.std.specs.Prelude.{◌≡◌, ◌<◌, ◌≤◌, ◌⊎◌, ◌==◌, ◌&&◌, ℕ, Bool, List, [], ◌∷◌, ◌++◌, length, slice_index_or}
 use Rattle.std.specs.List.{filter}
 use Rattle.std.specs.List.Sorted.{IsPermutation}
-use Rattle.vax_asm_check.specs.declared.told.Limits.{Limits}
 use Rattle.vax_asm_faults.specs.Least.{IsUpTo}
 use Rattle.vax_asm_faults.specs.Refusal.{Faults}
 use Rattle.vax_asm_second.specs.declared.types.Fault.{Fault}
@@ -27,27 +26,6 @@ pub record AreAll (told : List Fault) (all : Faults) : Type 0 where
   pub whole : List Fault
   pub order : IsInOrder all.whole whole
   pub joined : told ≡ all.lines ++ whole
-
--- the lines that were read up to each of these faults, of all of them together
-unfoldable pub lines_up_to : List Fault → ℕ
-lines_up_to [] = 0
-lines_up_to (f ∷ faults) = f.origin.place + lines_up_to faults
-
--- The first of those of the lines: so many at least, and so far into the source that so many lines stand up to each, together.
-pub record AreFront (most : Limits) (told : List Fault) (all : Faults) : Type 0 where
-  pub more : List Fault
-  pub joined : told ++ more ≡ all.lines
-  pub many : most.faults ≤ length told
-  pub far : most.lines ≤ lines_up_to told
-
--- all faults, or the first so many
-abbrev pub AreFirst : (most : Limits) (told : List Fault) → Faults → Type 0
-AreFirst most told all = AreAll told all ⊎ AreFront most told all
-
--- all faults, or, where these aren't all, the first so many
-abbrev pub AreFound : (are_all : Bool) → (most : Limits) → (told : List Fault) → Faults → Type 0
-AreFound true most told all = AreAll told all
-AreFound false most told all = AreFront most told all
 
 -- They begin with one on the line of this fault, of its kind or of a higher one.
 pub record BeginAt (f : Fault) (told : List Fault) : Type 0 where

@@ -22,4 +22,4 @@ IsKept s = restated (map said_of s.stood.items) (nothing s.dialect) ≡ left_of 
 -- A statement adds its faults to those before, and leaves this, whatever comes behind it.
 abbrev pub GoesOn : Origin → (text : List ℕ) → (old new : Survey) → Type 0
 GoesOn origin text old new =
-    (next : Onward) → with_faults old.faults.list.items (stated origin text (left_of old.left) old.ended next) ≡ with_faults new.faults.list.items (next (left_of new.left) new.ended)
+    (next : Onward) → with_faults old.faults.items (stated origin text (left_of old.left) old.ended next) ≡ with_faults new.faults.items (next (left_of new.left) new.ended)

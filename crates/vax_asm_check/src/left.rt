@@ -36,6 +36,7 @@ pub(crate) fn copied(alloc: Global, line: &Line) -> Result<Line, NoMemory>
     let text = line.text.to_vec(alloc).map_err(|_| NoMemory)?;
     let pieces = line.pieces.to_vec(alloc).map_err(|_| NoMemory)?;
     Ok(Line {
+        dialect: line.dialect,
         number: line.number,
         text,
         pieces,

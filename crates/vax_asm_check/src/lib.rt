@@ -8,9 +8,7 @@ mod laws;
 mod left;
 mod sorting;
 mod survey;
-mod told;
 mod walk;
 
 pub use laws::{faults_begin_with_the_refusal, faults_of_lines_ascend};
-pub use told::Limits;
-pub use walk::{Found, faults};
+pub use walk::faults;

@@ -1,6 +1,8 @@
 // The faults of statements one after another.
 
-ghost use Rattle.std.specs.Prelude.{◌≡◌, ◌++◌, ◌∷◌, [], IfOk, OnOk, false, if◌then◌else◌, map, option_map};
+ghost use Rattle.std.specs.Prelude.{◌≡◌, ◌++◌, ◌∷◌, [], ℕ, IfOk, IfSome, List, OnOk, false, if◌then◌else◌, map, option_map};
+ghost use Rattle.std.specs.List.{cons_option};
+ghost use Rattle.vax_asm.specs.Refusal.{IsRefused};
 ghost use Rattle.vax_asm.specs.Walk.{nothing};
 ghost use Rattle.vax_asm_check.specs.Listed.{AreAll};
 ghost use Rattle.vax_asm_check.specs.Restating.{resumed};
@@ -14,9 +16,8 @@ ghost use Rattle.vax_macro.specs.View.{opening_of};
 use crate::circles::circle_fault;
 use crate::left::{Left, Stated, copied, restated};
 use crate::sorting::sort;
-use crate::told::Told;
 use std::alloc::Global;
-use vax_asm::{FaultKind, Placed, place};
+use vax_asm::{FaultKind, Placed, place, refusal};
 use vax_asm_first::Origin;
 use vax_asm_second::{Fault, all_faults};
 use vax_dialect::Dialect;
@@ -30,7 +31,7 @@ pub(crate) struct Survey {
     pub(crate) dialect: Dialect,
     pub(crate) left: Left,
     pub(crate) stood: Vec<Stated>,
-    pub(crate) faults: Told,
+    pub(crate) faults: Vec<Fault>,
     pub(crate) ended: Option<u32>,
 }
 
@@ -44,15 +45,37 @@ fn is_ended(ended: Option<u32>, place: u32) -> bool
     }
 }
 
+/// Adds a fault, if there is one.
+fn add(faults: &mut Vec<Fault>, fault: Option<Fault>) -> Result<(), NoMemory>
+    ensures { OnOk result (faults.new.items ≡ faults.old.items ++ cons_option fault []) }
+{
+    let Some(fault) = fault else {
+        return Ok(());
+    };
+    faults.push(fault).map_err(|_| NoMemory)?;
+    Ok(())
+}
+
 /// Adds a fault, unless its line has ended.
-fn add_unless(told: &mut Told, ended: Option<u32>, fault: Fault) -> Result<(), NoMemory>
-    ensures { OnOk result (told.new.list.items ≡ told.old.list.items
+fn add_unless(faults: &mut Vec<Fault>, ended: Option<u32>, fault: Fault) -> Result<(), NoMemory>
+    ensures { OnOk result (faults.new.items ≡ faults.old.items
         ++ (if is_ended ended fault.origin.place then [] else fault ∷ [])) }
 {
     if is_ended(ended, fault.origin.place) {
         return Ok(());
     }
-    told.add(Some(fault))
+    add(faults, Some(fault))
+}
+
+/// The fault that a statement of a line has in a dialect whatever stands before it, where the line was cut in that dialect and its
+/// text alone decides that it has one.
+fn refusal_in(alloc: Global, dialect: Dialect, said: &Line) -> Result<Option<FaultKind>, NoMemory>
+    ensures { IfOk result (λ o. IfSome o (IsRefused dialect said.now.text.items)) }
+{
+    if said.dialect == dialect {
+        return refusal(alloc, said);
+    }
+    Ok(None)
 }
 
 /// Adds a statement that stands.
@@ -68,7 +91,7 @@ impl Survey {
         ensures dialect { IfOk result (λ s. s.dialect ≡ dialect) }
         ensures left { IfOk result (λ s. left_of s.left ≡ nothing dialect) }
         ensures stood { IfOk result (λ s. s.stood.items ≡ []) }
-        ensures faults { IfOk result (λ s. s.faults.list.items ≡ []) }
+        ensures faults { IfOk result (λ s. s.faults.items ≡ []) }
         ensures ended { IfOk result (λ s. s.ended ≡ None) }
     {
         let left = Left::new(alloc, dialect)?;
@@ -76,7 +99,7 @@ impl Survey {
             dialect,
             left,
             stood: Vec::new(alloc),
-            faults: Told::new(alloc),
+            faults: Vec::new(alloc),
             ended: None,
         })
     }
@@ -101,25 +124,38 @@ impl Survey {
         match placed {
             Placed::Stands => {
                 let circle = circle_fault(alloc, &self.left.assignments, before)?;
-                self.faults.add(circle)?;
+                add(&mut self.faults, circle)?;
                 keep(&mut self.stood, Stated { origin, line })?;
                 self.ended = None;
                 Ok(())
             }
             Placed::FaultyLabel(kind) => {
-                self.faults.add(Some(Fault { origin, kind }))?;
+                add(&mut self.faults, Some(Fault { origin, kind }))?;
                 self.ended = None;
                 Ok(())
             }
             Placed::Faulty(kind) => {
                 let circle = circle_fault(alloc, &self.left.assignments, before)?;
-                self.faults.add(Some(Fault { origin, kind }))?;
-                self.faults.add(circle)?;
+                add(&mut self.faults, Some(Fault { origin, kind }))?;
+                add(&mut self.faults, circle)?;
                 self.left = restated(alloc, self.dialect, &self.stood)?;
                 self.ended = Some(origin.place);
                 Ok(())
             }
         }
+    }
+
+    /// Goes on behind a statement that its text alone refuses, from all that stands.
+    fn refuse(&mut self, origin: Origin, kind: FaultKind) -> Result<(), NoMemory>
+        requires kept { IsKept self.old }
+        requires goes { is_ended self.old.ended origin.place ≡ false }
+        ensures goes { OnOk result ((text : List ℕ) → IsRefused self.old.left.standing.dialect text kind
+            → GoesOn origin text self.old self.new) }
+        ensures kept { OnOk result (IsKept self.new) }
+    {
+        add(&mut self.faults, Some(Fault { origin, kind }))?;
+        self.ended = Some(origin.place);
+        Ok(())
     }
 
     /// Goes on with a statement. What is left of a line that has ended is passed over.
@@ -136,21 +172,28 @@ impl Survey {
         if is_ended(self.ended, origin.place) {
             return Ok(());
         }
-        self.carry_out(alloc, origin, said)
+        let refused = refusal_in(alloc, self.left.standing.dialect, &said)?;
+        match refused {
+            Some(kind) => self.refuse(origin, kind),
+            None => self.carry_out(alloc, origin, said),
+        }
     }
 
     /// All faults, once the source is read to its end: those of the lines, and then those that the whole source decides, by
     /// their lines.
     pub(crate) fn end(self, alloc: Global, begin: Option<Begin>) -> Result<Vec<Fault>, NoMemory>
-        ensures { IfOk result (λ v. AreAll v.items (faults_in (with_faults self.faults.list.items
+        ensures { IfOk result (λ v. AreAll v.items (faults_in (with_faults self.faults.items
             (resumed (AtEnd (option_map opening_of begin)) (left_of self.left) self.ended)))) }
     {
-        let Survey { left, faults, .. } = self;
+        let Survey {
+            left,
+            mut faults,
+            ..
+        } = self;
         let Left {
             standing,
             assignments,
         } = left;
-        let mut faults = faults.into_list();
         let mut more = all_faults(alloc, standing, &assignments, begin)?;
         sort(&mut more)?;
         faults.extend_from_slice(&more).map_err(|_| NoMemory)?;
@@ -167,7 +210,7 @@ impl Survey {
     ) -> Result<Vec<Fault>, NoMemory>
         ensures { (o : Opened) →
             FaultIs (unclosed_of expander.now) (read_of expander.now) line kind o →
-            IfOk result (λ v. AreAll v.items (faults_in (with_faults self.faults.list.items
+            IfOk result (λ v. AreAll v.items (faults_in (with_faults self.faults.items
             (resumed o (left_of self.left) self.ended)))) }
     {
         match expander.open_begin() {
@@ -184,11 +227,11 @@ impl Survey {
 
     /// All faults, where the source ends with one here.
     fn stop_at(self, origin: Origin, kind: FaultKind) -> Result<Vec<Fault>, NoMemory>
-        ensures { IfOk result (λ v. AreAll v.items (faults_in (with_faults self.faults.list.items
+        ensures { IfOk result (λ v. AreAll v.items (faults_in (with_faults self.faults.items
             (resumed (Faulty origin.line origin.place kind) (left_of self.left) self.ended)))) }
     {
         let mut faults = self.faults;
         add_unless(&mut faults, self.ended, Fault { origin, kind })?;
-        Ok(faults.into_list())
+        Ok(faults)
     }
 }

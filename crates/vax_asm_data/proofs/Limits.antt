@@ -3,8 +3,9 @@ use Rattle.std.proofs.Common.{◌≡◌, ◌<◌, ◌≤◌, ◌+◌, ◌*◌, �
 use Rattle.std.proofs.lemmas.Bool.{lt-ltb}
 use Rattle.std.specs.Prelude.{◌^◌, ◌||◌, if◌then◌else◌}
 use Rattle.vax_asm_data.specs.Data.{fixed, room}
-use Rattle.vax_asm_encode.specs.Operands.{item_size}
+use Rattle.vax_asm_encode.specs.Operands.{item_bytes}
 use Rattle.vax_asm_encode.specs.declared.operand.DataKind.{DataKind}
+use Rattle.vax_asm_encode.specs.declared.operand.DataKind.TheVariants.{Number, Signed, Octaword}
 use Rattle.vax_asm_sections.specs.Layout.{Part, Zeros, Field, Sections, current_of, with_part, put, module_limit}
 use Rattle.vax_asm_sections.specs.declared.types.Refusal.{Refusal}
 use Rattle.vax_asm_sections.specs.declared.types.Refusal.TheVariants.{TooLong}
@@ -13,15 +14,18 @@ use Rattle.vax_asm_first.specs.Fixups.{Fixup, Filling}
 use Rattle.vax_asm_first.specs.Progress.{Site, after_change}
 use Rattle.vax_asm_first.specs.Standing.{Standing, with_sections}
 use Rattle.vax_asm_first.specs.declared.types.Content.TheVariants.{Data}
-use Rattle.vax_word.specs.Arithmetic.{bytes_of}
-use Rattle.vax_word.specs.declared.Size.{Size}
 use Rattle.vax_word.specs.declared.Size.TheVariants.{B, W, L, Q}
 
-at_least : (size : Size) (n : ℕ) → n ≤ bytes_of size * n
-at_least B n = omega arith
-at_least W n = omega arith
-at_least L n = omega arith
-at_least Q n = omega arith
+at_least : (kind : DataKind) (n : ℕ) → n ≤ item_bytes kind * n
+at_least (Number B) n = omega arith
+at_least (Number W) n = omega arith
+at_least (Number L) n = omega arith
+at_least (Number Q) n = omega arith
+at_least (Signed B) n = omega arith
+at_least (Signed W) n = omega arith
+at_least (Signed L) n = omega arith
+at_least (Signed Q) n = omega arith
+at_least Octaword n = omega arith
 
 or_second : (a b : Bool) → b ≡ true → (a || b) ≡ true
 or_second true b e = refl
@@ -36,21 +40,26 @@ too_long n part s h =
 pub items_too_many : (kind : DataKind) (site : Site) (n : ℕ) (filling : Filling) (s : Standing) → 16777216 < n → fixed kind site n filling s ≡ record { fault = Some fault.Large; standing = s }
 items_too_many kind site n filling s h =
     ap (λ (r : Result (Sections Fixup) Refusal). after_change s (with_sections s r))
-    (too_long (bytes_of (item_size kind) * n) (Field (record { origin = site.origin; at = (current_of s.sections).size; content = Data kind n; filling = filling })) s.sections (omega (arith, h, at_least (item_size kind) n)))
+    (too_long (item_bytes kind * n) (Field (record { origin = site.origin; at = (current_of s.sections).size; content = Data kind n; filling = filling })) s.sections (omega (arith, h, at_least kind n)))
 
-pub room_too_large : (size : Size) (s : Standing) (n : ℕ) → 16777216 < n → room size s (Ok n) ≡ Err fault.Large
-room_too_large size s n h =
+pub room_too_large : (kind : DataKind) (s : Standing) (n : ℕ) → 16777216 < n → room kind s (Ok n) ≡ Err fault.Large
+room_too_large kind s n h =
     ap (λ (r : Result (Sections Fixup) Refusal). with_sections s r)
-    (too_long (bytes_of size * n) (Zeros (bytes_of size * n)) s.sections (omega (arith, h, at_least size n)))
+    (too_long (item_bytes kind * n) (Zeros (item_bytes kind * n)) s.sections (omega (arith, h, at_least kind n)))
 
 pub too_far : (n : ℕ) (s : Standing) → 16777216 < n → with_sections s (put n (Zeros n) s.sections) ≡ Err fault.Large
 too_far n s h = ap (λ (r : Result (Sections Fixup) Refusal). with_sections s r) (too_long n (Zeros n) s.sections h)
 
-product_fits : (size : Size) (n : ℕ) → n ≤ 16777216 → bytes_of size * n < 2 ^ 32
-product_fits B n h = omega (arith, h)
-product_fits W n h = omega (arith, h)
-product_fits L n h = omega (arith, h)
-product_fits Q n h = omega (arith, h)
+product_fits : (kind : DataKind) (n : ℕ) → n ≤ 16777216 → item_bytes kind * n < 2 ^ 32
+product_fits (Number B) n h = omega (arith, h)
+product_fits (Number W) n h = omega (arith, h)
+product_fits (Number L) n h = omega (arith, h)
+product_fits (Number Q) n h = omega (arith, h)
+product_fits (Signed B) n h = omega (arith, h)
+product_fits (Signed W) n h = omega (arith, h)
+product_fits (Signed L) n h = omega (arith, h)
+product_fits (Signed Q) n h = omega (arith, h)
+product_fits Octaword n h = omega (arith, h)
 
-pub bytes_fit : (size : Size) (b n : ℕ) → b ≡ bytes_of size → n ≤ 16777216 → b * n < 2 ^ 32
-bytes_fit size b n is h = rw is (product_fits size n h)
+pub bytes_fit : (kind : DataKind) (b n : ℕ) → b ≡ item_bytes kind → n ≤ 16777216 → b * n < 2 ^ 32
+bytes_fit kind b n is h = rw is (product_fits kind n h)

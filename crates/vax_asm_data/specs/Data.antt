@@ -1,7 +1,9 @@
 -- The directives of data (VAX MACRO and Instruction Set Reference Manual, "VAX MACRO assembler directives": `.BYTE` to
--- `.QUAD`, `.SIGNED_BYTE`, `.SIGNED_WORD`, `.ADDRESS`, `.ASCII` to `.ASCIZ`, `.BLKB` to `.BLKQ`, `.ALIGN`, `.EVEN`, `.ODD`).
-use Rattle.std.specs.Prelude.{ℕ, pos, ◌+◌, ◌-◌, ◌*◌, ◌%◌, ◌^◌, Bool, true, false, ◌&&◌, nat_lt, nat_le, if◌then◌else◌, List, [], ◌∷◌, length, map, replicate, take, drop, Option, Some, None, Result, Ok, Err, codes}
-use Rattle.vax_asm_encode.specs.Operands.{item_size, item_field}
+-- `.QUAD`, `.OCTA`, `.SIGNED_BYTE`, `.SIGNED_WORD`, `.ADDRESS`, `.ASCII` to `.ASCIZ`, `.ASCID`, `.BLKB` to `.BLKQ`, `.BLKO`, `.ALIGN`,
+-- `.EVEN`, `.ODD`).
+use Rattle.std.specs.Prelude.{ℕ, pos, ◌+◌, ◌-◌, ◌*◌, ◌/◌, ◌%◌, ◌^◌, Bool, true, false, ◌&&◌, nat_lt, nat_le, if◌then◌else◌, List, [], ◌∷◌, length, map, replicate, take, drop, Option, Some, None, Result, Ok, Err, codes}
+use Rattle.std.specs.Int.{w64, int_wrapping_add}
+use Rattle.vax_asm_encode.specs.Operands.{item_bytes, item_field}
 use Rattle.vax_asm_encode.specs.declared.operand.DataKind.{DataKind}
 use Rattle.vax_asm_encode.specs.declared.operand.DataKind.TheVariants.{Number}
 use Rattle.vax_asm_sections.specs.Layout.{Zeros, Bytes, Field, current_of, gap, put, aligned}
@@ -10,6 +12,7 @@ use Rattle.vax_lex.specs.Characters.{spells}
 use Rattle.vax_lex.specs.Grammar.{symbols_of}
 use Rattle.vax_lex.specs.Tokens.{token_text}
 use Rattle.vax_lex.specs.declared.token.Token.{Token}
+use Rattle.vax_lex.specs.declared.value.Value.{Value}
 use Rattle.vax_lex.specs.declared.value.Value.TheVariants as value
 use Rattle.vax_macro.specs.declared.error.FaultKind.{FaultKind}
 use Rattle.vax_macro.specs.declared.error.FaultKind.TheVariants as fault
@@ -23,14 +26,12 @@ use Rattle.vax_asm_scope.specs.Scope.{Scope}
 use Rattle.vax_asm_scope.specs.Used.{uses_place}
 use Rattle.vax_asm_statement.specs.Items.{Item, item_of, whole, name_alone, Piece, Characters, Value as ByteValue, pieces_of}
 use Rattle.vax_asm_statement.specs.Parts.{parts}
-use Rattle.vax_word.specs.Arithmetic.{bytes_of}
-use Rattle.vax_word.specs.declared.Size.{Size}
 use Rattle.vax_word.specs.declared.Size.TheVariants as size
 
 -- An item of data: an expression that a field of this kind holds, so many times.
 abbrev pub fixed : DataKind → Site → ℕ → Filling → Standing → Progress
 fixed kind site n filling s =
-    added (bytes_of (item_size kind) * n) (Field (record { origin = site.origin; at = (current_of s.sections).size; content = Data kind n; filling = filling })) s
+    added (item_bytes kind * n) (Field (record { origin = site.origin; at = (current_of s.sections).size; content = Data kind n; filling = filling })) s
 
 abbrev pub placed_item : DataKind → Site → Option FaultKind → Result ℕ FaultKind → Filling → Standing → Progress
 placed_item kind site None (Ok n) filling s = fixed kind site n filling s
@@ -75,7 +76,7 @@ abbrev pub unless_none : List Token → Result Standing FaultKind → Result Sta
 unless_none [] r = Err fault.Count
 unless_none (t ∷ tokens) r = r
 
--- `.BYTE`, `.WORD`, `.LONG`, `.QUAD`, `.SIGNED_BYTE`, `.SIGNED_WORD`
+-- `.BYTE`, `.WORD`, `.LONG`, `.QUAD`, `.OCTA`, `.SIGNED_BYTE`, `.SIGNED_WORD`
 unfoldable pub data_stated : DataKind → Origin → List ℕ → List Token → Standing → Result Standing FaultKind
 data_stated kind origin line tokens s =
     unless_none tokens (done (items_stated kind (site_of origin line s) (map item_of (parts tokens)) (begun s)))
@@ -107,33 +108,54 @@ abbrev pub pieces_length : List ℕ → List Piece → ℕ
 pieces_length line [] = 0
 pieces_length line (piece ∷ pieces) = piece_length line piece + pieces_length line pieces
 
--- `.ASCII`: the pieces alone; `.ASCIC`: their count first, in a byte; `.ASCIZ`: a zero byte last
+-- `.ASCII`: the pieces alone; `.ASCIC`: their count first, in a byte; `.ASCIZ`: a zero byte last; `.ASCID`: a descriptor first
 pub data Ending : Type 0 where
   Plain : Ending
   Counted_first : Ending
   Zero_last : Ending
+  Described : Ending
 
--- a count that a byte holds
-abbrev pub count_byte : ℕ → Option ℕ
-count_byte n = if nat_lt n 256 then Some n else None
+-- a count that isn't above the most that may be
+abbrev pub count_within : (most n : ℕ) → Option ℕ
+count_within most n = if nat_le n most then Some n else None
 
 abbrev pub count_stated : Option ℕ → Standing → Progress
 count_stated (Some n) s = added 1 (Bytes (n ∷ [])) s
 count_stated None s = record { fault = Some fault.Range; standing = s }
 
-abbrev pub before_pieces : Ending → ℕ → Standing → Progress
-before_pieces Plain n s = begun s
-before_pieces Counted_first n s = count_stated (count_byte n) s
-before_pieces Zero_last n s = begun s
+-- A descriptor of so many characters (".ASCID"): a word with their count, a byte with the type of data, 14 for text, a byte with
+-- the class of the descriptor, 1 for a fixed one, and a longword with the address of the characters, which stand right behind it.
+abbrev pub descriptor_head : ℕ → List ℕ
+descriptor_head n = n % 256 ∷ n / 256 ∷ 14 ∷ 1 ∷ []
+
+-- a place so many bytes behind another
+abbrev pub place_behind : ℕ → Value → Value
+place_behind n (value.Absolute x) = value.Absolute (int_wrapping_add w64 x (pos n))
+place_behind n (value.Section s x) = value.Section s (int_wrapping_add w64 x (pos n))
+place_behind n (value.External i x) = value.External i (int_wrapping_add w64 x (pos n))
+
+abbrev pub address_stated : Site → Progress → Progress
+address_stated site p = joined p.fault (fixed (Number size.L) site 1 (Known (place_behind 8 site.here)) p.standing)
+
+abbrev pub descriptor_stated : Option ℕ → Site → Standing → Progress
+descriptor_stated (Some n) site s = address_stated site (added 4 (Bytes (descriptor_head n)) s)
+descriptor_stated None site s = record { fault = Some fault.Range; standing = s }
+
+abbrev pub before_pieces : Ending → Site → ℕ → Standing → Progress
+before_pieces Plain site n s = begun s
+before_pieces Counted_first site n s = count_stated (count_within 255 n) s
+before_pieces Zero_last site n s = begun s
+before_pieces Described site n s = descriptor_stated (count_within 65535 n) site s
 
 abbrev pub behind_pieces : Ending → Progress → Progress
 behind_pieces Plain p = p
 behind_pieces Counted_first p = p
+behind_pieces Described p = p
 behind_pieces Zero_last p = joined p.fault (added 1 (Zeros 1) p.standing)
 
 abbrev pub text_parts : Ending → Site → List Piece → Standing → Progress
 text_parts ending site pieces s =
-    behind_pieces ending (pieces_stated site pieces (before_pieces ending (pieces_length site.line pieces) s))
+    behind_pieces ending (pieces_stated site pieces (before_pieces ending site (pieces_length site.line pieces) s))
 
 abbrev pub text_by : Ending → Site → Standing → Option (List Piece) → Result Standing FaultKind
 text_by ending site s None = Err fault.Form
@@ -142,15 +164,15 @@ text_by ending site s (Some pieces) = done (text_parts ending site pieces s)
 unfoldable pub text_stated : Ending → Origin → List ℕ → List Token → Standing → Result Standing FaultKind
 text_stated ending origin line tokens s = unless_none tokens (text_by ending (site_of origin line s) s (pieces_of tokens))
 
--- `.BLKB`, `.BLKW`, `.BLKL`, `.BLKQ`: zero bytes for so many of this size
-abbrev pub room : Size → Standing → Result ℕ FaultKind → Result Standing FaultKind
-room size s (Ok n) = with_sections s (put (bytes_of size * n) (Zeros (bytes_of size * n)) s.sections)
-room size s (Err kind) = Err kind
+-- `.BLKB`, `.BLKW`, `.BLKL`, `.BLKQ`, `.BLKO`: zero bytes for so many items of this kind
+abbrev pub room : DataKind → Standing → Result ℕ FaultKind → Result Standing FaultKind
+room kind s (Ok n) = with_sections s (put (item_bytes kind * n) (Zeros (item_bytes kind * n)) s.sections)
+room kind s (Err fault) = Err fault
 
-abbrev pub room_by : Size → Site → Option (List Token) → Standing → Result Standing FaultKind
-room_by size site count s =
+abbrev pub room_by : DataKind → Site → Option (List Token) → Standing → Result Standing FaultKind
+room_by kind site count s =
     let c = counted site count s.scope in
-    room size (with_scope c.scope s) c.number
+    room kind (with_scope c.scope s) c.number
 
 -- at most one operand
 abbrev pub at_most_one : List (List Token) → (Option (List Token) → Result Standing FaultKind) → Result Standing FaultKind
@@ -158,9 +180,9 @@ at_most_one [] stated = stated None
 at_most_one (one ∷ []) stated = stated (Some one)
 at_most_one (one ∷ two ∷ more) stated = Err fault.Count
 
-unfoldable pub space_stated : Size → Origin → List ℕ → List Token → Standing → Result Standing FaultKind
-space_stated size origin line tokens s =
-    at_most_one (parts tokens) (λ count. room_by size (site_of origin line s) count s)
+unfoldable pub space_stated : DataKind → Origin → List ℕ → List Token → Standing → Result Standing FaultKind
+space_stated kind origin line tokens s =
+    at_most_one (parts tokens) (λ count. room_by kind (site_of origin line s) count s)
 
 -- `.ALIGN`: the name of a boundary, else a power of two from 0 to 9
 abbrev pub boundary_of : List ℕ → Option ℕ

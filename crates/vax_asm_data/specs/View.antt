@@ -7,3 +7,4 @@ abbrev pub ending_of : TextForm → specs.Ending
 ending_of form.Plain = specs.Plain
 ending_of form.CountFirst = specs.Counted_first
 ending_of form.ZeroLast = specs.Zero_last
+ending_of form.DescriptorFirst = specs.Described

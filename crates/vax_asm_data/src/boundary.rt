@@ -10,6 +10,7 @@ ghost use Rattle.vax_asm_scope.specs.Kept.{scope_of};
 
 use std::alloc::Global;
 use std::rc::Rc;
+use vax_asm_encode::DataKind;
 use vax_asm_first::{
     FaultKind, Origin, Refused, Site, Standing, first_of, known_count, number_of, site_of,
 };
@@ -18,25 +19,24 @@ use vax_asm_sections::Piece;
 use vax_asm_statement::{name_alone, parts, text_of};
 use vax_lex::{Token, spells};
 use vax_space::NoMemory;
-use vax_word::Size;
 
 /// More bytes than this can't be in a module.
 const MOST_BYTES: u64 = 16_777_216;
 
-/// Room for so many of this size.
+/// Room for so many items of this kind.
 #[tactic(auto, using(crate::proofs::Limits::room_too_large, crate::proofs::Limits::bytes_fit))]
-fn make_room(standing: &mut Standing, size: Size, count: u64) -> Result<(), Refused>
+fn make_room(standing: &mut Standing, kind: DataKind, count: u64) -> Result<(), Refused>
     ensures { Stands result
-        (standing_of standing.new) (room size (standing_of standing.old) (Ok count)) }
+        (standing_of standing.new) (room kind (standing_of standing.old) (Ok count)) }
 {
     if count > MOST_BYTES {
         return Err(Refused::Fault(FaultKind::Large));
     }
-    let bytes = size.bytes() * count as u32;
+    let bytes = kind.bytes() * count as u32;
     standing.put(bytes, Piece::Zeros(bytes))
 }
 
-/// `.BLKB`, `.BLKW`, `.BLKL` and `.BLKQ`: zero bytes for so many of this size, or for one where no count is written.
+/// `.BLKB`, `.BLKW`, `.BLKL`, `.BLKQ` and `.BLKO`: zero bytes for so many items of this kind, or for one where no count is written.
 ///
 /// [`Refused::Fault`]: `Count` where there are two counts or more, else the first that holds of `Form` where the count is no
 /// number, `Undefined` where it isn't known, `Range` where it is negative, `Large` where the section or the module would be
@@ -47,12 +47,12 @@ pub fn space(
     alloc: Global,
     origin: Origin,
     line: &Rc<Vec<u8>>,
-    size: Size,
+    kind: DataKind,
     operands: &[Token],
 ) -> Result<(), Refused>
     requires tokens { All (IsTokenOf line.now.value.items) operands.now }
     requires few { length operands.now < 2 ^ 32 }
-    ensures { States (space_stated size origin line.now.value.items operands.now)
+    ensures { States (space_stated kind origin line.now.value.items operands.now)
         result standing.old standing.new }
 {
     let Ok(found) = parts(alloc, operands) else {
@@ -67,8 +67,8 @@ pub fn space(
         return Err(Refused::NoMemory);
     };
     match known_count(standing, alloc, site, count) {
-        Ok(Ok(count)) => make_room(standing, size, count),
-        Ok(Err(kind)) => Err(Refused::Fault(kind)),
+        Ok(Ok(count)) => make_room(standing, kind, count),
+        Ok(Err(fault)) => Err(Refused::Fault(fault)),
         Err(NoMemory) => Err(Refused::NoMemory),
     }
 }

@@ -27,7 +27,7 @@ const MOST_ITEMS: u64 = 16_777_216;
 
 /// An item without a fault.
 #[tactic(auto, using(crate::proofs::Limits::items_too_many, crate::proofs::Limits::bytes_fit))]
-fn fix(
+pub(crate) fn fix(
     standing: &mut Standing,
     site: Site<'_>,
     kind: DataKind,
@@ -47,7 +47,7 @@ fn fix(
         content: Content::Data { kind, count },
         filling,
     };
-    add(standing, kind.size().bytes() * count, Piece::Field(fixup))
+    add(standing, kind.bytes() * count, Piece::Field(fixup))
 }
 
 /// An item without an expression: zeros, so many times. Its fault, if it has one.
@@ -223,7 +223,7 @@ fn state(
     state_items(standing, alloc, site, kind, once, operands)
 }
 
-/// `.BYTE`, `.WORD`, `.LONG`, `.QUAD`, `.SIGNED_BYTE` and `.SIGNED_WORD`: items of this kind, `e` or `e[n]`.
+/// `.BYTE`, `.WORD`, `.LONG`, `.QUAD`, `.OCTA`, `.SIGNED_BYTE` and `.SIGNED_WORD`: items of this kind, `e` or `e[n]`.
 ///
 /// [`Refused::Fault`] with the fault that counts: `Count` where there are no items, `Form` where an item is no expression,
 /// uses a `.` that may not stand there or is a relocatable one that isn't of a longword, or where a count is no number, `Undefined` where a count isn't

@@ -1,8 +1,8 @@
 //! The directives of data of MACRO-32: what they leave in a section, and their faults (VAX MACRO and Instruction Set
 //! Reference Manual, "VAX MACRO assembler directives").
 //!
-//! Each call carries out one directive where it stands: [`data`] `.BYTE` to `.QUAD`, [`addresses`] `.ADDRESS`, [`text`]
-//! `.ASCII`, `.ASCIC` and `.ASCIZ`, [`space`] `.BLKB` to `.BLKQ`, [`align`] `.ALIGN`, [`even`] `.EVEN` and [`odd`] `.ODD`.
+//! Each call carries out one directive where it stands: [`data`] `.BYTE` to `.OCTA`, [`addresses`] `.ADDRESS`, [`text`]
+//! `.ASCII`, `.ASCIC`, `.ASCIZ` and `.ASCID`, [`space`] `.BLKB` to `.BLKQ`, [`align`] `.ALIGN`, [`even`] `.EVEN` and [`odd`] `.ODD`.
 //! [`item`] is one item, as a part of a statement, and [`forward`] what `. = e` leaves.
 #![tactic(auto)]
 

@@ -1,7 +1,7 @@
 // Text.
 
-ghost use Rattle.std.specs.Prelude.{◌≡◌, ◌<◌, ◌^◌, All, IfOk, length, map};
-ghost use Rattle.vax_asm_data.specs.Data.{before_pieces, behind_pieces, characters_of, count_byte, count_stated, piece_length, piece_stated, pieces_length, pieces_stated, text_parts, text_stated};
+ghost use Rattle.std.specs.Prelude.{◌≡◌, ◌<◌, ◌≤◌, ◌^◌, All, IfOk, IfSome, length, map};
+ghost use Rattle.vax_asm_data.specs.Data.{address_stated, before_pieces, behind_pieces, characters_of, count_within, count_stated, descriptor_stated, place_behind, piece_length, piece_stated, pieces_length, pieces_stated, text_parts, text_stated};
 ghost use Rattle.vax_asm_data.specs.View.{ending_of};
 ghost use Rattle.vax_lex.specs.Tokens.{IsTokenOf};
 ghost use Rattle.vax_asm_first.specs.Progress.{site_of};
@@ -9,14 +9,14 @@ ghost use Rattle.vax_asm_first.specs.View.{progress_of, site_seen, standing_of, 
 ghost use Rattle.vax_asm_statement.specs.Items.{piece_seen};
 ghost use Rattle.vax_asm_statement.specs.Within.{PieceWithin};
 
-use crate::items::item;
+use crate::items::{fix, item};
 use std::alloc::Global;
 use std::rc::Rc;
 use vax_asm_encode::DataKind;
-use vax_asm_first::{FaultKind, Origin, Refused, Site, Standing, add, lowest, site_of};
+use vax_asm_first::{FaultKind, Filling, Origin, Refused, Site, Standing, add, lowest, site_of};
 use vax_asm_sections::Piece as Part;
 use vax_asm_statement::{Piece, pieces, text_of};
-use vax_lex::Token;
+use vax_lex::{Token, Value};
 use vax_space::NoMemory;
 use vax_word::Size;
 
@@ -29,6 +29,8 @@ pub enum TextForm {
     CountFirst,
     /// `.ASCIZ`: a zero byte last.
     ZeroLast,
+    /// `.ASCID`: a descriptor first.
+    DescriptorFirst,
 }
 
 /// The characters between two delimiters.
@@ -52,21 +54,22 @@ fn piece_length(line: &[u8], piece: Piece<'_>) -> usize
     }
 }
 
-/// How many bytes pieces have. None where a byte can't hold that.
+/// How many bytes pieces have. None where that is more than may be.
 #[tactic(auto, using(crate::proofs::Folding::length_step))]
-fn count_of(line: &[u8], pieces: &[Piece<'_>]) -> Option<u8>
+fn count_of(line: &[u8], pieces: &[Piece<'_>], most: usize) -> Option<usize>
     requires { All (PieceWithin line.now) (map piece_seen pieces.now) }
-    ensures { result ≡ count_byte (pieces_length line.now (map piece_seen pieces.now)) }
+    ensures value { result ≡ count_within most (pieces_length line.now (map piece_seen pieces.now)) }
+    ensures few { IfSome result (λ n. n ≤ most) }
 {
     let mut count = 0;
     for piece in pieces {
         let length = piece_length(line, *piece);
-        if length > 255 - count {
+        if length > most - count {
             return None;
         }
         count += length;
     }
-    Some(count as u8)
+    Some(count)
 }
 
 /// A piece of text. Its fault, if it has one.
@@ -116,15 +119,69 @@ fn state_pieces(
 fn state_count(
     standing: &mut Standing,
     alloc: Global,
-    count: Option<u8>,
+    count: Option<usize>,
 ) -> Result<Option<FaultKind>, NoMemory>
+    requires { IfSome count (λ n. n ≤ 255) }
     ensures { Advances (count_stated count) result standing.old standing.new }
 {
     let Some(count) = count else {
         return Ok(Some(FaultKind::Range));
     };
-    let byte = vec![in alloc; count].map_err(|_| NoMemory)?;
+    let byte = vec![in alloc; count as u8].map_err(|_| NoMemory)?;
     add(standing, 1, Part::Bytes(byte))
+}
+
+/// The place so many bytes behind another.
+fn place_behind(bytes: u8, place: Value) -> Value
+    ensures { result ≡ place_behind bytes place }
+{
+    let bytes = i64::from(bytes);
+    match place {
+        Value::Absolute(number) => Value::Absolute(number.wrapping_add(bytes)),
+        Value::Section { section, offset } => Value::Section {
+            section,
+            offset: offset.wrapping_add(bytes),
+        },
+        Value::External { index, offset } => Value::External {
+            index,
+            offset: offset.wrapping_add(bytes),
+        },
+    }
+}
+
+/// The address of the characters behind a descriptor, whose first part has this fault.
+fn state_address(
+    standing: &mut Standing,
+    site: Site<'_>,
+    before: Option<FaultKind>,
+) -> Result<Option<FaultKind>, NoMemory>
+    ensures { IfOk result (λ f. progress_of f standing.new
+        ≡ address_stated (site_seen site.entry) (progress_of before standing.old)) }
+{
+    let address = Filling::Known(place_behind(8, site.here));
+    let found = fix(standing, site, DataKind::Number(Size::L), 1, address)?;
+    Ok(lowest(before, found))
+}
+
+/// The descriptor of so many characters, which stand right behind it.
+fn state_descriptor(
+    standing: &mut Standing,
+    alloc: Global,
+    site: Site<'_>,
+    count: Option<usize>,
+) -> Result<Option<FaultKind>, NoMemory>
+    requires { IfSome count (λ n. n ≤ 65535) }
+    ensures { Advances (descriptor_stated count (site_seen site.entry))
+        result standing.old standing.new }
+{
+    let Some(count) = count else {
+        return Ok(Some(FaultKind::Range));
+    };
+    let low = (count % 256) as u8;
+    let high = (count / 256) as u8;
+    let bytes = vec![in alloc; low, high, 14, 1].map_err(|_| NoMemory)?;
+    let front = add(standing, 4, Part::Bytes(bytes))?;
+    state_address(standing, site, front)
 }
 
 /// What stands before the pieces.
@@ -132,17 +189,20 @@ fn state_front(
     standing: &mut Standing,
     alloc: Global,
     form: TextForm,
-    line: &[u8],
+    site: Site<'_>,
     pieces: &[Piece<'_>],
 ) -> Result<Option<FaultKind>, NoMemory>
-    requires { All (PieceWithin line.now) (map piece_seen pieces.now) }
-    ensures { Advances
-        (before_pieces (ending_of form) (pieces_length line.now (map piece_seen pieces.now)))
+    requires { All (PieceWithin site.line.now.value.items) (map piece_seen pieces.now) }
+    ensures { Advances (before_pieces (ending_of form) (site_seen site.entry)
+        (pieces_length site.entry.line.now.value.items (map piece_seen pieces.now)))
         result standing.old standing.new }
 {
     match form {
         TextForm::Plain | TextForm::ZeroLast => Ok(None),
-        TextForm::CountFirst => state_count(standing, alloc, count_of(line, pieces)),
+        TextForm::CountFirst => state_count(standing, alloc, count_of(site.line, pieces, 255)),
+        TextForm::DescriptorFirst => {
+            state_descriptor(standing, alloc, site, count_of(site.line, pieces, 65535))
+        }
     }
 }
 
@@ -156,7 +216,7 @@ fn state_end(
         ≡ behind_pieces (ending_of form) (progress_of fault standing.old)) }
 {
     match form {
-        TextForm::Plain | TextForm::CountFirst => Ok(fault),
+        TextForm::Plain | TextForm::CountFirst | TextForm::DescriptorFirst => Ok(fault),
         TextForm::ZeroLast => Ok(lowest(fault, add(standing, 1, Part::Zeros(1))?)),
     }
 }
@@ -176,12 +236,12 @@ fn state_text(
         (map piece_seen pieces.now) (standing_of standing.old)) }
 {
     let site = site_of(origin, line, standing)?;
-    let front = state_front(standing, alloc, form, line, pieces)?;
+    let front = state_front(standing, alloc, form, site, pieces)?;
     let fault = state_pieces(standing, alloc, site, front, pieces)?;
     state_end(standing, form, fault)
 }
 
-/// `.ASCII`, `.ASCIC` and `.ASCIZ`: pieces `/characters/` and `<e>`.
+/// `.ASCII`, `.ASCIC`, `.ASCIZ` and `.ASCID`: pieces `/characters/` and `<e>`.
 ///
 /// [`Refused::Fault`] with the fault that counts: `Count` where there are no pieces, `Form` where something is no piece, or a
 /// value is no absolute expression or uses `.`, `Range` where a value doesn't fit a byte or the bytes are too many for their

@@ -1,6 +1,7 @@
 -- Operands without their values, where they may stand, and what holds their values (VAX Architecture Reference Manual,
 -- operand specifier addressing mode formats).
 use Rattle.std.specs.Prelude.{ℕ, Bool, true, false, not, ◌&&◌, ◌==◌, nat_lt, if◌then◌else◌, Option, Some, None}
+use Rattle.vax_word.specs.Arithmetic.{bytes_of}
 use Rattle.vax_word.specs.declared.Size.{Size}
 use Rattle.vax_word.specs.declared.Size.TheVariants as size
 use Rattle.vax_isa.specs.declared.actions.Narrow.{Narrow}
@@ -20,14 +21,16 @@ use Rattle.vax_asm_encode.specs.declared.operand.Field.TheVariants as field
 use Rattle.vax_asm_encode.specs.declared.operand.DataKind.{DataKind}
 use Rattle.vax_asm_encode.specs.declared.operand.DataKind.TheVariants as data_kind
 
--- the size of an item of data, and what holds its value
-abbrev pub item_size : DataKind → Size
-item_size (data_kind.Number size) = size
-item_size (data_kind.Signed size) = size
+-- how many bytes an item of data has, and what holds its value: of an octaword the low quadword does
+abbrev pub item_bytes : DataKind → ℕ
+item_bytes (data_kind.Number size) = bytes_of size
+item_bytes (data_kind.Signed size) = bytes_of size
+item_bytes data_kind.Octaword = 16
 
 abbrev pub item_field : DataKind → Field
 item_field (data_kind.Number size) = field.Number size
 item_field (data_kind.Signed size) = field.Signed size
+item_field data_kind.Octaword = field.Number size.Q
 
 abbrev pub data_size : ℕ → Size
 data_size width = if width == 1 then size.B else (if width == 2 then size.W else (if width == 4 then size.L else size.Q))

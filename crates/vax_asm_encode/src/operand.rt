@@ -3,7 +3,7 @@
 ghost use Rattle.std.specs.Prelude.{◌≡◌};
 ghost use Rattle.vax_flat.specs.Operand.{is_result};
 ghost use Rattle.vax_flat.specs.Grammar.{is_read, takes_register};
-ghost use Rattle.vax_asm_encode.specs.Operands.{item_size, item_field, data_size, branch_size, base_field, field_of, base_stands, takes_index, may_stand, takes_branch};
+ghost use Rattle.vax_asm_encode.specs.Operands.{item_bytes, item_field, data_size, branch_size, base_field, field_of, base_stands, takes_index, may_stand, takes_branch};
 
 use vax_isa::{Letter, Narrow, OperandKind};
 use vax_word::Size;
@@ -71,15 +71,18 @@ pub enum DataKind {
     Number(Size),
     /// A signed number of this size.
     Signed(Size),
+    /// A number of 16 bytes, of which the low eight are its value and the others its sign.
+    Octaword,
 }
 
 impl DataKind {
-    /// The size of the item.
-    pub fn size(self) -> Size
-        ensures { result ≡ item_size self }
+    /// How many bytes the item has.
+    pub fn bytes(self) -> u32
+        ensures { result ≡ item_bytes self }
     {
         match self {
-            DataKind::Number(size) | DataKind::Signed(size) => size,
+            DataKind::Number(size) | DataKind::Signed(size) => size.bytes(),
+            DataKind::Octaword => 16,
         }
     }
 
@@ -90,6 +93,7 @@ impl DataKind {
         match self {
             DataKind::Number(size) => Field::Number(size),
             DataKind::Signed(size) => Field::Signed(size),
+            DataKind::Octaword => Field::Number(Size::Q),
         }
     }
 }

@@ -1,14 +1,14 @@
 -- The errors of a source as text.
-use Rattle.std.specs.Prelude.{◌≡◌, All, ℕ, ◌+◌, ◌-◌, Bool, true, false, ◌==◌, ◌&&◌, ◌||◌, not, nat_le, nat_lt, if◌then◌else◌, List, [], ◌∷◌, ◌++◌, length, map, take, codes, decimal}
+use Rattle.std.specs.Prelude.{◌≡◌, All, ℕ, ◌+◌, ◌-◌, Bool, ◌==◌, ◌&&◌, ◌||◌, not, nat_le, nat_lt, if◌then◌else◌, List, [], ◌∷◌, ◌++◌, length, map, take, codes, decimal}
 use Rattle.std.specs.List.{flat_map, position_or_len}
-use Rattle.vax_asm_check.specs.Listed.{AreFound}
-use Rattle.vax_asm_check.specs.declared.told.Limits.{Limits}
+use Rattle.vax_asm_check.specs.Listed.{AreAll}
 use Rattle.vax_asm_faults.specs.Refusal.{faults_of}
 use Rattle.vax_asm_causes.specs.Printed.{ArePrinted}
 use Rattle.vax_asm_errors.specs.declared.said.Said.{Said}
 use Rattle.vax_asm_second.specs.declared.types.Fault.{Fault}
 use Rattle.vax_dialect.specs.declared.Dialect.{Dialect}
 use Rattle.vax_lines.specs.Lines.{Text, lines}
+use Rattle.vax_prelude.specs.Preludes.{Title, name_at, number_at}
 use Rattle.vax_macro.specs.Fault.{code_of}
 use Rattle.vax_macro.specs.declared.error.FaultKind.{FaultKind}
 use Rattle.vax_macro.specs.declared.error.FaultKind.TheVariants as fault
@@ -49,8 +49,8 @@ abbrev pub shown_line : Text → Text
 shown_line line = map shown (take 160 line)
 
 -- where an error stands
-unfoldable pub place : Text → (line column : ℕ) → Text
-place name line column = name ++ codes ":" ++ decimal line ++ codes ":" ++ decimal column ++ codes ": error: "
+unfoldable pub place : Title → (line column : ℕ) → Text
+place title line column = name_at title line ++ codes ":" ++ decimal (number_at title line) ++ codes ":" ++ decimal column ++ codes ": error: "
 
 -- a tab stands below a tab, and else a blank
 abbrev pub under : ℕ → ℕ
@@ -64,50 +64,44 @@ unfoldable pub mark : Text → (column : ℕ) → Text
 mark line column = shown_line line ++ codes "\n" ++ under_line line column ++ codes "^\n"
 
 -- the line of an expansion, if there is one
-unfoldable pub noted : Text → (line : ℕ) → Text → Text
-noted name line [] = []
-noted name line (b ∷ expansion) = name ++ codes ":" ++ decimal line ++ codes ": " ++ (b ∷ expansion) ++ codes "\n"
+unfoldable pub noted : Title → (line : ℕ) → Text → Text
+noted title line [] = []
+noted title line (b ∷ expansion) = name_at title line ++ codes ":" ++ decimal (number_at title line) ++ codes ": " ++ (b ∷ expansion) ++ codes "\n"
 
 -- the first line of an error: its place, its kind, what that says, and words on its cause
-unfoldable pub headline : (name : Text) → Said → Text
-headline name s = place name s.fault.origin.line (s.column + 1) ++ decimal (code_of s.fault.kind) ++ codes ": " ++ message s.fault.kind ++ s.cause.items ++ codes "\n"
+unfoldable pub headline : Title → Said → Text
+headline title s = place title s.fault.origin.line (s.column + 1) ++ decimal (code_of s.fault.kind) ++ codes ": " ++ message s.fault.kind ++ s.cause.items ++ codes "\n"
 
 -- an error: its first line, the line of the source with a mark below a column, and the line of an expansion
-unfoldable pub error : (name source : Text) → Said → Text
-error name source s =
-    headline name s ++ mark (line_at s.fault.origin.line (lines source)) s.column ++ noted name s.fault.origin.line s.expansion.items
+unfoldable pub error : Title → (source : Text) → Said → Text
+error title source s =
+    headline title s ++ mark (line_at s.fault.origin.line (lines source)) s.column ++ noted title s.fault.origin.line s.expansion.items
 
 -- The words on a cause and the line of an expansion can be printed.
 pub record IsPlain (s : Said) : Type 0 where
   pub cause : ArePrinted s.cause.items
   pub expansion : ArePrinted s.expansion.items
 
--- so many more than a hundred there are, or so many at least
-unfoldable pub count_words : (least : Text) → ℕ → Text
-count_words least count = least ++ decimal count ++ codes " more in this file\n"
+-- so many more than a hundred there are
+unfoldable pub count_words : ℕ → Text
+count_words count = decimal count ++ codes " more in this file\n"
 
 -- that of a file
-unfoldable pub more_words : (name least : Text) → ℕ → Text
-more_words name least count = name ++ codes ": error: " ++ count_words least count
-
--- Where lines have three hundred faults by themselves, and a million lines stand up to each of these, together, the rest need not be looked for.
-abbrev pub limits : Limits
-limits = record { faults = 300; lines = 1000000 }
+unfoldable pub more_words : (name : Text) → ℕ → Text
+more_words name count = name ++ codes ": error: " ++ count_words count
 
 -- A hundred faults are told at most, and then how many more there are.
-abbrev pub ending : Text → (are_all : Bool) → (count : ℕ) → Text
-ending name true count = if nat_le count 100 then [] else more_words name [] (count - 100)
-ending name false count = more_words name (codes "at least ") 200
+abbrev pub ending : Text → (count : ℕ) → Text
+ending name count = if nat_le count 100 then [] else more_words name (count - 100)
 
-abbrev pub errors : (name source : Text) → List Said → (are_all : Bool) → (count : ℕ) → Text
-errors name source said are_all count = flat_map (error name source) said ++ ending name are_all count
+abbrev pub errors : Title → (source : Text) → List Said → (count : ℕ) → Text
+errors title source said count = flat_map (error title source) said ++ ending title.name count
 
--- The errors of a source of a dialect were added: those of its first hundred faults, or of all. Each has a column and words on its cause.
-pub record IsErrors (dialect : Dialect) (name source before after : Text) : Type 0 where
-  pub are_all : Bool
+-- The errors of the text of a source of a dialect, with what stands before it, were added: those of its first hundred faults, or of all. Each has a column and words on its cause.
+pub record IsErrors (dialect : Dialect) (title : Title) (source before after : Text) : Type 0 where
   pub found : List Fault
-  pub first : AreFound are_all limits found (faults_of dialect source)
+  pub all : AreAll found (faults_of dialect source)
   pub said : List Said
   pub told : map (λ s. s.fault) said ≡ take 100 found
   pub plain : All IsPlain said
-  pub text : after ≡ before ++ errors name source said are_all (length found)
+  pub text : after ≡ before ++ errors title source said (length found)

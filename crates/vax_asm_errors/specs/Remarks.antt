@@ -8,6 +8,7 @@ use Rattle.vax_asm_causes.specs.declared.remarks.About.TheVariants.{Place, Regis
 use Rattle.vax_asm_causes.specs.declared.remarks.Remark.{Remark}
 use Rattle.vax_asm_errors.specs.Errors.{line_at, mark, shown}
 use Rattle.vax_lines.specs.Lines.{Text, lines}
+use Rattle.vax_prelude.specs.Preludes.{Title, name_at, number_at}
 
 -- how a remark is meant
 unfoldable pub tone_words : About → Text
@@ -32,13 +33,13 @@ abbrev pub words_on : (asked line : Text) → Remark → Text
 words_on asked line r = words r.about asked (piece_text line r.piece)
 
 -- the same with its place, how it is meant, and the line with a mark below a column
-unfoldable pub remark_at : (name asked line : Text) → Remark → Text
-remark_at name asked line r =
-    name ++ codes ":" ++ decimal r.line ++ codes ":" ++ decimal (r.piece.start + 1) ++ tone_words r.about ++ words_on asked line r ++ codes "\n" ++ mark line r.piece.start
+unfoldable pub remark_at : Title → (asked line : Text) → Remark → Text
+remark_at title asked line r =
+    name_at title r.line ++ codes ":" ++ decimal (number_at title r.line) ++ codes ":" ++ decimal (r.piece.start + 1) ++ tone_words r.about ++ words_on asked line r ++ codes "\n" ++ mark line r.piece.start
 
-abbrev pub remark : (name source asked : Text) → Remark → Text
-remark name source asked r = remark_at name asked (line_at r.line (lines source)) r
+abbrev pub remark : Title → (source asked : Text) → Remark → Text
+remark title source asked r = remark_at title asked (line_at r.line (lines source)) r
 
 -- Exactly these remarks on a source were added, each as its text.
-abbrev pub IsRemarked : (name source : Text) → Asked → (before after : Text) → Type 0
-IsRemarked name source asked before after = after ≡ before ++ flat_map (remark name source asked.name) (remarks asked source)
+abbrev pub IsRemarked : Title → (source : Text) → Asked → (before after : Text) → Type 0
+IsRemarked title source asked before after = after ≡ before ++ flat_map (remark title source asked.name) (remarks asked source)

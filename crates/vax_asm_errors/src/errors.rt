@@ -1,33 +1,29 @@
 // Errors of a source.
 
-ghost use Rattle.std.specs.Prelude.{◌≡◌, ◌++◌, ◌+◌, OnOk, decimal, length, take};
+ghost use Rattle.std.specs.Prelude.{◌≡◌, ◌++◌, ◌+◌, OnOk, decimal, take};
 ghost use Rattle.std.specs.List.{flat_map};
 ghost use Rattle.vax_asm_errors.specs.Errors.{IsErrors, count_words, ending, error, headline, mark, more_words, noted, place};
+ghost use Rattle.vax_prelude.specs.View.{title_seen};
 
 use crate::line::{line_at, push_line, push_under};
 use crate::messages::message;
 use crate::said::{Said, said_of};
 use std::alloc::Global;
-use vax_asm_check::{Found, Limits, faults};
+use vax_asm_check::faults;
 use vax_asm_second::Fault;
 use vax_dialect::Dialect;
 use vax_outside::Text;
+use vax_prelude::{Title, told_in};
 use vax_space::NoMemory;
 
 /// So many faults of a source are told at most.
 pub const MOST: usize = 100;
 
-/// So many faults that lines have by themselves are counted at least.
-pub const COUNTED: usize = 300;
-
-/// Behind these no more are, once so many lines stand up to each of those that were counted, together.
-const LINES: usize = 1_000_000;
-
-/// A source with its dialect, and the name of its file.
+/// A source with its dialect, the name of its file and what stands before it: its text begins with the preludes.
 #[derive(Clone, Copy)]
 pub struct Source<'a> {
     pub dialect: Dialect,
-    pub name: &'a [u8],
+    pub title: Title<'a>,
     pub text: &'a [u8],
 }
 
@@ -47,12 +43,14 @@ pub(crate) fn push_number(out: &mut Vec<u8>, number: u64) -> Result<(), NoMemory
 
 /// Appends where an error stands: the file, the line and the column, counted from 0.
 #[tactic(auto, unfolding(crate::specs::Errors::place))]
-fn push_place(out: &mut Vec<u8>, name: &[u8], line: u32, column: u32) -> Result<(), NoMemory>
-    ensures { OnOk result (out.new.items ≡ out.old.items ++ place name.now line (column + 1)) }
+fn push_place(out: &mut Vec<u8>, title: Title<'_>, line: u32, column: u32) -> Result<(), NoMemory>
+    ensures { OnOk result
+        (out.new.items ≡ out.old.items ++ place (title_seen title.entry) line (column + 1)) }
 {
+    let (name, number) = told_in(title, line as usize);
     push(out, name)?;
     push(out, b":")?;
-    push_number(out, u64::from(line))?;
+    push_number(out, number as u64)?;
     push(out, b":")?;
     push_number(out, u64::from(column) + 1)?;
     push(out, b": error: ")
@@ -71,15 +69,22 @@ pub(crate) fn push_mark(out: &mut Vec<u8>, line: &[u8], column: u32) -> Result<(
 
 /// Appends the line of an expansion, if there is one.
 #[tactic(auto, unfolding(crate::specs::Errors::noted))]
-fn push_note(out: &mut Vec<u8>, name: &[u8], line: u32, expansion: &[u8]) -> Result<(), NoMemory>
-    ensures { OnOk result (out.new.items ≡ out.old.items ++ noted name.now line expansion.now) }
+fn push_note(
+    out: &mut Vec<u8>,
+    title: Title<'_>,
+    line: u32,
+    expansion: &[u8],
+) -> Result<(), NoMemory>
+    ensures { OnOk result
+        (out.new.items ≡ out.old.items ++ noted (title_seen title.entry) line expansion.now) }
 {
     if expansion.is_empty() {
         return Ok(());
     }
+    let (name, number) = told_in(title, line as usize);
     push(out, name)?;
     push(out, b":")?;
-    push_number(out, u64::from(line))?;
+    push_number(out, number as u64)?;
     push(out, b": ")?;
     push(out, expansion)?;
     push(out, b"\n")
@@ -87,10 +92,11 @@ fn push_note(out: &mut Vec<u8>, name: &[u8], line: u32, expansion: &[u8]) -> Res
 
 /// Appends the first line of an error: its place, its kind, what that says, and words on its cause.
 #[tactic(auto, unfolding(crate::specs::Errors::headline))]
-fn push_headline(out: &mut Vec<u8>, name: &[u8], said: &Said) -> Result<(), NoMemory>
-    ensures { OnOk result (out.new.items ≡ out.old.items ++ headline name.now said.now) }
+fn push_headline(out: &mut Vec<u8>, title: Title<'_>, said: &Said) -> Result<(), NoMemory>
+    ensures { OnOk result
+        (out.new.items ≡ out.old.items ++ headline (title_seen title.entry) said.now) }
 {
-    push_place(out, name, said.fault.origin.line, said.column)?;
+    push_place(out, title, said.fault.origin.line, said.column)?;
     push_number(out, u64::from(said.fault.kind.code()))?;
     push(out, b": ")?;
     push(out, message(said.fault.kind))?;
@@ -102,19 +108,19 @@ fn push_headline(out: &mut Vec<u8>, name: &[u8], said: &Said) -> Result<(), NoMe
 #[tactic(auto, unfolding(crate::specs::Errors::error))]
 fn push_error(out: &mut Vec<u8>, source: Source<'_>, said: &Said) -> Result<(), NoMemory>
     ensures { OnOk result (out.new.items
-        ≡ out.old.items ++ error source.entry.name.now source.entry.text.now said.now) }
+        ≡ out.old.items ++ error (title_seen source.entry.title) source.entry.text.now said.now) }
 {
     let number = said.fault.origin.line;
-    push_headline(out, source.name, said)?;
+    push_headline(out, source.title, said)?;
     push_mark(out, line_at(source.text, number as usize), said.column)?;
-    push_note(out, source.name, number, &said.expansion)
+    push_note(out, source.title, number, &said.expansion)
 }
 
 /// Appends errors.
 #[tactic(auto, using(crate::proofs::Listing::error_added, crate::proofs::Listing::errors_added))]
 fn push_each(out: &mut Vec<u8>, source: Source<'_>, said: &[Said]) -> Result<(), NoMemory>
     ensures { OnOk result (out.new.items ≡ out.old.items
-        ++ flat_map (error source.entry.name.now source.entry.text.now) said.now) }
+        ++ flat_map (error (title_seen source.entry.title) source.entry.text.now) said.now) }
 {
     for one in said {
         push_error(out, source, one)?;
@@ -122,40 +128,33 @@ fn push_each(out: &mut Vec<u8>, source: Source<'_>, said: &[Said]) -> Result<(),
     Ok(())
 }
 
-/// Appends how many more there are, or how many at least.
+/// Appends how many more there are.
 #[tactic(auto, unfolding(crate::specs::Errors::count_words))]
-fn push_count(out: &mut Vec<u8>, least: &[u8], count: usize) -> Result<(), NoMemory>
-    ensures { OnOk result (out.new.items ≡ out.old.items ++ count_words least.now count) }
+fn push_count(out: &mut Vec<u8>, count: usize) -> Result<(), NoMemory>
+    ensures { OnOk result (out.new.items ≡ out.old.items ++ count_words count) }
 {
-    push(out, least)?;
     push_number(out, count as u64)?;
     push(out, b" more in this file\n")
 }
 
-/// Appends how many more faults there are than are told, or how many at least.
+/// Appends how many more faults there are than are told.
 #[tactic(auto, unfolding(crate::specs::Errors::more_words))]
-fn push_more(out: &mut Vec<u8>, name: &[u8], least: &[u8], count: usize) -> Result<(), NoMemory>
-    ensures { OnOk result
-        (out.new.items ≡ out.old.items ++ more_words name.now least.now count) }
+fn push_more(out: &mut Vec<u8>, name: &[u8], count: usize) -> Result<(), NoMemory>
+    ensures { OnOk result (out.new.items ≡ out.old.items ++ more_words name.now count) }
 {
     push(out, name)?;
     push(out, b": error: ")?;
-    push_count(out, least, count)
+    push_count(out, count)
 }
 
 /// Appends how many more faults there are than are told, if there are more.
-fn push_ending(out: &mut Vec<u8>, name: &[u8], found: &Found) -> Result<(), NoMemory>
-    ensures { OnOk result (out.new.items ≡ out.old.items
-        ++ ending name.now found.now.are_all (length found.now.faults.items)) }
+fn push_ending(out: &mut Vec<u8>, name: &[u8], count: usize) -> Result<(), NoMemory>
+    ensures { OnOk result (out.new.items ≡ out.old.items ++ ending name.now count) }
 {
-    if !found.are_all {
-        return push_more(out, name, b"at least ", COUNTED - MOST);
-    }
-    let count = found.faults.len();
     if count <= MOST {
         return Ok(());
     }
-    push_more(out, name, b"", count - MOST)
+    push_more(out, name, count - MOST)
 }
 
 /// The first so many faults, or all.
@@ -179,15 +178,11 @@ fn told(found: &[Fault]) -> &[Fault]
 ///
 /// [`NoMemory`] where memory is refused.
 pub fn push_errors(alloc: Global, out: &mut Vec<u8>, source: Source<'_>) -> Result<(), NoMemory>
-    ensures { OnOk result (IsErrors source.entry.dialect source.entry.name.now
+    ensures { OnOk result (IsErrors source.entry.dialect (title_seen source.entry.title)
         source.entry.text.now out.old.items out.new.items) }
 {
-    let limits = Limits {
-        faults: COUNTED,
-        lines: LINES,
-    };
-    let found = faults(alloc, source.dialect, source.text, limits)?;
-    let said = said_of(alloc, source, told(&found.faults))?;
+    let found = faults(alloc, source.dialect, source.text)?;
+    let said = said_of(alloc, source, told(&found))?;
     push_each(out, source, &said)?;
-    push_ending(out, source.name, &found)
+    push_ending(out, source.title.name, found.len())
 }

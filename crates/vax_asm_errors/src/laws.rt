@@ -6,18 +6,19 @@ ghost use Rattle.vax_asm_errors.specs.Beginning.{BeginsAt};
 ghost use Rattle.vax_asm_errors.specs.Errors.{IsErrors};
 ghost use Rattle.vax_asm_second.specs.declared.types.Fault.{Fault};
 ghost use Rattle.vax_dialect.specs.declared.Dialect.{Dialect};
+ghost use Rattle.vax_prelude.specs.Preludes.{Title};
 ghost use Rattle.vax_module.specs.declared.Module.{Module};
 
 /// Of a source that assembles nothing is told.
 pub fn sources_that_assemble_have_no_errors()
-    ensures { (dialect : Dialect) → (name source before after : List ℕ) → (m : Module)
-        → IsErrors dialect name source before after → assembled dialect source ≡ Ok m
+    ensures { (dialect : Dialect) → (title : Title) → (source before after : List ℕ) → (m : Module)
+        → IsErrors dialect title source before after → assembled dialect source ≡ Ok m
         → after ≡ before }
 {}
 
 /// The first error of any other stands on the line that it is refused for.
 pub fn errors_begin_with_the_refusal()
-    ensures { (dialect : Dialect) → (name source before after : List ℕ) → (f : Fault)
-        → IsErrors dialect name source before after → assembled dialect source ≡ Err f
-        → BeginsAt name f before after }
+    ensures { (dialect : Dialect) → (title : Title) → (source before after : List ℕ) → (f : Fault)
+        → IsErrors dialect title source before after → assembled dialect source ≡ Err f
+        → BeginsAt title f before after }
 {}

@@ -10,8 +10,9 @@ mod remarks;
 mod said;
 mod walk;
 
-pub use errors::{COUNTED, MOST, Source, push_errors};
+pub use errors::{MOST, Source, push_errors};
 pub use laws::{errors_begin_with_the_refusal, sources_that_assemble_have_no_errors};
 pub use remarks::push_remarks;
 pub use said::Said;
 pub use vax_asm_causes::Wanted;
+pub use vax_prelude::{Prelude, Title};

@@ -4,11 +4,13 @@ ghost use Rattle.std.specs.Prelude.{◌≡◌, ◌++◌, OnOk};
 ghost use Rattle.std.specs.List.{flat_map};
 ghost use Rattle.vax_asm_causes.specs.View.{asked_by};
 ghost use Rattle.vax_asm_errors.specs.Remarks.{IsRemarked, quoted, remark, remark_at, tone_words, words, words_on};
+ghost use Rattle.vax_prelude.specs.View.{title_seen};
 
 use crate::errors::{Source, push, push_mark, push_number};
 use crate::line::{line_at, push_bytes};
 use std::alloc::Global;
 use vax_asm_causes::{About, Remark, Wanted, remarks_of, text_of};
+use vax_prelude::{Title, told_in};
 use vax_space::NoMemory;
 
 /// How a remark is meant, in words.
@@ -53,17 +55,18 @@ fn push_words(out: &mut Vec<u8>, about: About, asked: &[u8], name: &[u8]) -> Res
 #[tactic(auto, unfolding(crate::specs::Remarks::remark_at))]
 fn push_on(
     out: &mut Vec<u8>,
-    name: &[u8],
+    title: Title<'_>,
     asked: &[u8],
     line: &[u8],
     one: &Remark,
 ) -> Result<(), NoMemory>
     ensures { OnOk result
-        (out.new.items ≡ out.old.items ++ remark_at name.now asked.now line.now one.now) }
+        (out.new.items ≡ out.old.items ++ remark_at (title_seen title.entry) asked.now line.now one.now) }
 {
+    let (name, number) = told_in(title, one.line);
     push(out, name)?;
     push(out, b":")?;
-    push_number(out, one.line as u64)?;
+    push_number(out, number as u64)?;
     push(out, b":")?;
     push_number(out, u64::from(one.piece.start) + 1)?;
     push(out, tone_words(one.about))?;
@@ -80,9 +83,15 @@ fn push_remark(
     one: &Remark,
 ) -> Result<(), NoMemory>
     ensures { OnOk result (out.new.items ≡ out.old.items
-        ++ remark source.entry.name.now source.entry.text.now asked.now one.now) }
+        ++ remark (title_seen source.entry.title) source.entry.text.now asked.now one.now) }
 {
-    push_on(out, source.name, asked, line_at(source.text, one.line), one)
+    push_on(
+        out,
+        source.title,
+        asked,
+        line_at(source.text, one.line),
+        one,
+    )
 }
 
 /// Appends remarks.
@@ -94,7 +103,7 @@ fn push_all(
     all: &[Remark],
 ) -> Result<(), NoMemory>
     ensures { OnOk result (out.new.items ≡ out.old.items
-        ++ flat_map (remark source.entry.name.now source.entry.text.now asked.now) all.now) }
+        ++ flat_map (remark (title_seen source.entry.title) source.entry.text.now asked.now) all.now) }
 {
     for one in all {
         push_remark(out, source, asked, one)?;
@@ -113,7 +122,7 @@ pub fn push_remarks(
     source: Source<'_>,
     wanted: Wanted<'_>,
 ) -> Result<(), NoMemory>
-    ensures { OnOk result (IsRemarked source.entry.name.now source.entry.text.now
+    ensures { OnOk result (IsRemarked (title_seen source.entry.title) source.entry.text.now
         (asked_by wanted.entry) out.old.items out.new.items) }
 {
     let all = remarks_of(alloc, source.text, wanted)?;

@@ -106,4 +106,4 @@ as_placed_from origin line pieces p s =
 
 pub placed_from : (origin : Origin) (line : List ℕ) (s : Standing) → ComesFrom origin (waiting_in (placed origin line s))
 unfolding placed
-placed_from origin line s = as_placed_from origin line (pieces_of line) (parsed (map token_of (pieces_of line))) s
+placed_from origin line s = as_placed_from origin line (pieces_of s.dialect line) (parsed (map token_of (pieces_of s.dialect line))) s

@@ -72,6 +72,9 @@ within l = rw (length-map l.sections.items section_of) l.in_range
 pub size_seen : (l : Layout Fixup) → (current_of (sections_in l)).size ≡ (current_of (sections_of l)).size
 size_seen l = ap (λ (x : Section specs.Fixup). x.size) (current_seen (sections_of l) (within l))
 
+pub name_seen : (l : Layout Fixup) → (current_of (sections_in l)).name ≡ (current_of (sections_of l)).name
+name_seen l = ap (λ (x : Section specs.Fixup). x.name) (current_seen (sections_of l) (within l))
+
 -- what stands with these sections
 abbrev with : Standing → Sections specs.Fixup → Standing
 with s sections = record s { sections = sections }

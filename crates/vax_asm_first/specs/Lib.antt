@@ -5,3 +5,4 @@ pub mod Fixups
 pub mod Progress
 pub mod Standing
 pub mod View
+pub use Rattle.vax_isa.specs.declared.actions.Narrow

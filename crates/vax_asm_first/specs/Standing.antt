@@ -1,10 +1,12 @@
 -- What the statements so far leave, and what an expression is where it stands (VAX MACRO and Instruction Set Reference
 -- Manual, "Terms and expressions" and "Location counter").
-use Rattle.std.specs.Prelude.{pos, Bool, false, ◌&&◌, not, if◌then◌else◌, List, Option, Some, None, Result, Ok, Err}
+use Rattle.std.specs.Prelude.{ℕ, pos, Bool, true, false, ◌-◌, ◌&&◌, nat_lt, not, if◌then◌else◌, List, [], ◌∷◌, ◌++◌, length, take, Option, Some, None, Result, Ok, Err}
 use Rattle.vax_asm_sections.specs.Layout.{Sections, current_of, at_first}
 use Rattle.vax_asm_sections.specs.declared.types.Refusal.{Refusal}
 use Rattle.vax_dialect.specs.Differences.{has_places_in_operands}
 use Rattle.vax_dialect.specs.declared.Dialect.{Dialect}
+use Rattle.vax_isa.specs.declared.actions.Narrow.{Narrow}
+use Rattle.vax_isa.specs.declared.actions.Narrow.TheVariants as narrow
 use Rattle.vax_lex.specs.Grammar.{Symbol}
 use Rattle.vax_lex.specs.declared.value.Value.{Value}
 use Rattle.vax_lex.specs.declared.value.Value.TheVariants as value
@@ -18,17 +20,26 @@ use Rattle.vax_asm_scope.specs.Used.{uses_place}
 use Rattle.vax_asm_values.specs.Certain.{certain}
 use Rattle.vax_asm_values.specs.Values.{Written, worth, value_of}
 
+-- A section that is put aside, by its name, and the block of local labels that is put aside with it, if one is, by its number.
+pub record Saved : Type 0 where
+  pub section : List ℕ
+  pub block : Option ℕ
+
 -- The dialect of the source; the names and their definitions; whether their block of local labels goes on past labels and
--- sections; the sections; and where the program begins, if `.END` has said so.
+-- sections; whether an operand that is an expression alone is absolute; the size of a displacement to what isn't known; the sections;
+-- those that are put aside, the last one at the end; and where the program begins, if `.END` has said so.
 pub record Standing : Type 0 where
   pub dialect : Dialect
   pub scope : Scope
   pub keeps_block : Bool
+  pub absolute : Bool
+  pub displacement : Narrow
   pub sections : Sections Fixup
+  pub saved : List Saved
   pub transfer : Option Transfer
 
 abbrev pub at_start : Dialect → Standing
-at_start dialect = record { dialect = dialect; scope = nothing; keeps_block = false; sections = at_first; transfer = None }
+at_start dialect = record { dialect = dialect; scope = nothing; keeps_block = false; absolute = false; displacement = narrow.L; sections = at_first; saved = []; transfer = None }
 
 -- where the next statement stands
 abbrev pub here_in : {F : Type 0} → Sections F → Value
@@ -68,6 +79,28 @@ told dialect here symbols s = record {
   settled = unless_certain (certain (value_of (bound here symbols s).scope.sources) (written_here dialect here symbols s)) (worth (value_of (bound here symbols s).scope.sources) (written_here dialect here symbols s));
   scope = (bound here symbols s).scope;
 }
+
+-- The current section is put aside, with its block of local labels where that is wanted. So many are put aside at most.
+abbrev pub saved_limit : ℕ
+saved_limit = 31
+
+abbrev pub block_of : Bool → Standing → Option ℕ
+block_of true s = Some s.scope.names.block
+block_of false s = None
+
+abbrev pub put_aside : Bool → Standing → Result Standing FaultKind
+put_aside with_block s =
+    let context : Saved = record { section = (current_of s.sections).name; block = block_of with_block s } in
+    if nat_lt (length s.saved) saved_limit then Ok (record s { saved = s.saved ++ context ∷ [] }) else Err fault.Depth
+
+-- the one that was put aside last, and what stands without it
+abbrev pub last_of : List Saved → Option Saved
+last_of [] = None
+last_of (c ∷ []) = Some c
+last_of (c ∷ d ∷ saved) = last_of (d ∷ saved)
+
+abbrev pub without_last : Standing → Standing
+without_last s = record s { saved = take (length s.saved - 1) s.saved }
 
 -- the names after a change
 abbrev pub with_scope : Scope → Standing → Standing

@@ -14,6 +14,7 @@ use Rattle.vax_asm_first.specs.declared.site.Site.{Site}
 use Rattle.vax_asm_first.specs.declared.types.Assignment.{Assignment}
 use Rattle.vax_asm_first.specs.declared.types.Refused.{Refused}
 use Rattle.vax_asm_first.specs.declared.types.Refused.TheVariants.{Fault, NoMemory}
+use Rattle.vax_asm_first.specs.declared.types.Saved.{Saved}
 use Rattle.vax_asm_first.specs.declared.types.Standing.{Standing}
 use Rattle.vax_asm_first.specs.declared.types.Told.{Told}
 use Rattle.vax_asm_first.specs.declared.types.Transfer.{Transfer}
@@ -48,12 +49,18 @@ assignment_of a = record { origin = a.origin; definition = a.definition; written
 abbrev pub transfer_of : Transfer → specs.Transfer
 transfer_of t = record { name = t.name.items; definition = t.definition }
 
+abbrev pub saved_of : Saved → standing.Saved
+saved_of c = record { section = c.section.items; block = c.block }
+
 abbrev pub standing_of : Standing → standing.Standing
 standing_of s = record {
   dialect = s.dialect;
   scope = scope_of s.scope;
   keeps_block = s.keeps_block;
+  absolute = s.absolute;
+  displacement = s.displacement;
   sections = sections_in s.layout;
+  saved = map saved_of s.saved.items;
   transfer = option_map transfer_of s.transfer;
 }
 

@@ -14,5 +14,8 @@ mod types;
 pub use circles::first_circle;
 pub use faults::{fault_of_value, first_of, lowest, number_of, unless_place};
 pub use site::{Site, add, filling_of, item_place, known_count, misplaces, site_of};
-pub use types::{Assignment, Content, Filling, Fixup, Origin, Refused, Standing, Told, Transfer};
+pub use types::{
+    Assignment, Content, Filling, Fixup, Origin, Refused, Saved, Standing, Told, Transfer,
+};
+pub use vax_isa::Narrow;
 pub use vax_macro::FaultKind;

@@ -1,27 +1,31 @@
 // What the statements so far leave.
 
-ghost use Rattle.std.specs.Prelude.{◌≡◌, ◌≤◌, All, IfOk, OnOk, length};
+ghost use Rattle.std.specs.Prelude.{◌≡◌, ◌≤◌, All, IfOk, OnOk, length, option_map};
 ghost use Rattle.vax_asm_sections.specs.Layout.{current_of, put, aligned};
 ghost use Rattle.vax_asm_sections.specs.View.{part_of};
 ghost use Rattle.vax_lex.specs.Grammar.{symbols_of};
 ghost use Rattle.vax_lex.specs.Tokens.{IsTokenOf};
-ghost use Rattle.vax_asm_first.specs.Standing.{at_start, here_in, told, unless_certain, with_sections};
-ghost use Rattle.vax_asm_first.specs.View.{standing_of, told_of, part_seen, Alters, ChangesScope};
+ghost use Rattle.vax_asm_first.specs.Standing.{at_start, block_of, here_in, last_of, put_aside, told, unless_certain, with_sections, without_last};
+ghost use Rattle.vax_asm_first.specs.View.{saved_of, standing_of, told_of, part_seen, Alters, ChangesScope};
 ghost use Rattle.vax_asm_scope.specs.Kept.{scope_of};
 ghost use Rattle.vax_asm_values.specs.Certain.{certain};
 ghost use Rattle.vax_asm_values.specs.Values.{Means, Worked, value_of};
 ghost use Rattle.vax_asm_values.specs.View.{written_of};
 
-use crate::types::{Fixup, Refused, Standing, Told};
+use crate::types::{Fixup, Refused, Saved, Standing, Told};
 use std::alloc::Global;
 use std::rc::Rc;
 use vax_asm_scope::Scope;
 use vax_asm_sections::{Layout, Piece, Refusal};
 use vax_asm_values::Expression;
 use vax_dialect::Dialect;
+use vax_isa::Narrow;
 use vax_lex::{ExprError, Token, Value};
 use vax_macro::FaultKind;
 use vax_space::NoMemory;
+
+/// So many sections can be put aside.
+const MOST_SAVED: usize = 31;
 
 /// What is settled of an expression's value, whatever comes later.
 fn settled(
@@ -51,7 +55,10 @@ impl Standing {
             dialect,
             scope: Scope::new(alloc),
             keeps_block: false,
+            absolute: false,
+            displacement: Narrow::L,
             layout,
+            saved: Vec::new(alloc),
             transfer: None,
         })
     }
@@ -63,6 +70,55 @@ impl Standing {
         ensures few { result ≤ 1048576 }
     {
         self.layout.current().size
+    }
+
+    /// The name of that section; empty for the one that has none.
+    #[tactic(auto, using(crate::proofs::Seeing::name_seen))]
+    pub fn section_name(&self) -> &[u8]
+        ensures { result.now ≡ (current_of (standing_of self.now).sections).name }
+    {
+        &self.layout.current().name
+    }
+
+    /// The block of local labels that is put aside, if that is wanted.
+    fn block_of(&self, with_block: bool) -> Option<usize>
+        ensures { result ≡ block_of with_block (standing_of self.now) }
+    {
+        if with_block {
+            Some(self.scope.block())
+        } else {
+            None
+        }
+    }
+
+    /// Puts that section aside, with the block of local labels where that is wanted.
+    ///
+    /// [`Refused::Fault`] with `Depth` where 31 are put aside, [`Refused::NoMemory`] where memory is refused; all is as before
+    /// then.
+    #[tactic(auto, using(crate::proofs::Saving::one_more, crate::proofs::Saving::count_seen))]
+    pub fn put_aside(&mut self, alloc: Global, with_block: bool) -> Result<(), Refused>
+        ensures { Alters (put_aside with_block) result self.old self.new }
+    {
+        if self.saved.len() >= MOST_SAVED {
+            return Err(Refused::Fault(FaultKind::Depth));
+        }
+        let block = self.block_of(with_block);
+        let Ok(section) = self.section_name().to_vec(alloc) else {
+            return Err(Refused::NoMemory);
+        };
+        match self.saved.push(Saved { section, block }) {
+            Ok(()) => Ok(()),
+            Err(_) => Err(Refused::NoMemory),
+        }
+    }
+
+    /// Takes the section that was put aside last, if there is one.
+    #[tactic(auto, using(crate::proofs::Saving::last_seen, crate::proofs::Saving::rest_seen))]
+    pub fn take_saved(&mut self) -> Option<Saved>
+        ensures saved { option_map saved_of result ≡ last_of (standing_of self.old).saved }
+        ensures rest { standing_of self.new ≡ without_last (standing_of self.old) }
+    {
+        self.saved.pop()
     }
 
     /// Where the next statement stands, which is what `.` is worth in it.

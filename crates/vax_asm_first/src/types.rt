@@ -9,7 +9,7 @@ use vax_asm_scope::Scope;
 use vax_asm_sections::Layout;
 use vax_asm_values::Expression;
 use vax_dialect::Dialect;
-use vax_isa::OperandKind;
+use vax_isa::{Narrow, OperandKind};
 use vax_lex::{ExprError, Value};
 use vax_macro::FaultKind;
 
@@ -68,6 +68,13 @@ pub struct Transfer {
     pub definition: usize,
 }
 
+/// A section that is put aside, by its name, and the number of the block of local labels that is put aside with it, if one is.
+#[derive(Drop)]
+pub struct Saved {
+    pub section: Vec<u8>,
+    pub block: Option<usize>,
+}
+
 /// What the statements so far leave.
 #[derive(Drop)]
 pub struct Standing {
@@ -77,8 +84,14 @@ pub struct Standing {
     pub scope: Scope,
     /// Whether their block of local labels goes on past labels and sections.
     pub keeps_block: bool,
+    /// Whether an operand that is an expression alone is absolute.
+    pub absolute: bool,
+    /// The size of a displacement to what isn't known.
+    pub displacement: Narrow,
     /// The sections.
     pub layout: Layout<Fixup>,
+    /// Those that are put aside, the last one at the end.
+    pub saved: Vec<Saved>,
     /// Where the program begins, once `.END` says so.
     pub transfer: Option<Transfer>,
 }

@@ -27,7 +27,7 @@ use Rattle.vax_asm_statement.specs.Parts.{parts}
 use Rattle.vax_asm_statement.specs.Sizes.{sized}
 use Rattle.vax_asm_instruction.proofs.Back.{IsSound, operand_is_long, read_back}
 use Rattle.vax_asm_instruction.specs.Bytes.{AreHeld, HasInstruction, Held, StandFrom, held_bytes, operands_bytes}
-use Rattle.vax_asm_instruction.specs.Placing.{if_stands, operand_as, operand_at, operand_length, specifier_length}
+use Rattle.vax_asm_instruction.specs.Placing.{by_default, if_stands, operand_as, operand_at, operand_length, specifier_length}
 use Rattle.vax_asm_instruction.specs.Stating.{Prepared, Reached, behind, fault_at, fixed, fixup_at, if_counted, instruction_stated, opcode_stated, operand_stated, operands_stated, placed, prepared, site_for}
 use Rattle.vax_asm_instruction.specs.declared.placing.Addressed.{Addressed}
 
@@ -86,8 +86,8 @@ placed_step site kind p at s (Some o) stands h = record {
 
 step : (site : Site) (kind : OperandKind) (tokens : List Token) (at : ℕ) (s : Standing) → (operand_stated site kind tokens at s).progress.fault ≡ None → Step site kind at s (operand_stated site kind tokens at s)
 step site kind tokens at s h =
-    let p : Prepared = prepared s.dialect (site_for s at site) (operand_as kind site.line tokens) s.scope in
-    let made = placed_step site kind p at (with_scope p.scope s) (operand_at kind p.addressed s.sections.current at) (at_stands kind p.addressed s.sections.current at) h in record {
+    let p : Prepared = prepared s.dialect (site_for s at site) (operand_as s.absolute kind site.line tokens) s.scope in
+    let made = placed_step site kind p at (with_scope p.scope s) (operand_at kind (by_default s.displacement s.sections.current p.addressed) s.sections.current at) (at_stands kind (by_default s.displacement s.sections.current p.addressed) s.sections.current at) h in record {
       operand = made.operand;
       filling = made.filling;
       stands = made.stands;

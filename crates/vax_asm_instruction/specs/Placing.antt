@@ -1,8 +1,12 @@
 -- The operands of an instruction, by how they are written (VAX MACRO and Instruction Set Reference Manual, "Addressing modes"; VAX Architecture
 -- Reference Manual, operand specifier addressing mode formats).
-use Rattle.std.specs.Prelude.{ℕ, ◌+◌, Bool, true, false, if◌then◌else◌, List, Option, Some, None}
+use Rattle.std.specs.Prelude.{ℕ, ◌+◌, ◌==◌, Bool, true, false, if◌then◌else◌, List, Option, Some, None, Result, Ok, Err}
 use Rattle.vax_isa.specs.declared.OperandKind.{OperandKind}
+use Rattle.vax_isa.specs.declared.actions.Narrow.{Narrow}
 use Rattle.vax_lex.specs.declared.token.Token.{Token}
+use Rattle.vax_lex.specs.declared.value.Value.{Value}
+use Rattle.vax_lex.specs.declared.value.Value.TheVariants as value
+use Rattle.vax_lex.specs.declared.value.ExprError.{ExprError}
 use Rattle.vax_asm_encode.specs.declared.operand.Operand.{Operand}
 use Rattle.vax_asm_encode.specs.declared.operand.Operand.TheVariants as operand
 use Rattle.vax_asm_encode.specs.Operands.{may_stand, takes_branch}
@@ -18,9 +22,31 @@ use Rattle.vax_asm_instruction.specs.declared.placing.Addressed.{Addressed}
 abbrev pub destination : List Token → modes.Operand
 destination tokens = record { mode = mode.Relative None false; expression = tokens; index = None }
 
+-- Where that is enabled, an operand that is an expression alone is absolute: `X` is `@#X`.
+abbrev pub mode_under : Bool → Mode → Mode
+mode_under absolute (mode.Relative None false) = if absolute then mode.Absolute else mode.Relative None false
+mode_under absolute m = m
+
+abbrev pub written_under : Bool → modes.Operand → modes.Operand
+written_under absolute o = record o { mode = mode_under absolute o.mode }
+
 -- how an operand of a kind is written
-abbrev pub operand_as : OperandKind → List ℕ → List Token → modes.Operand
-operand_as kind line tokens = if takes_branch kind.letter then destination tokens else operand_of line tokens
+abbrev pub operand_as : Bool → OperandKind → List ℕ → List Token → modes.Operand
+operand_as absolute kind line tokens = if takes_branch kind.letter then destination tokens else written_under absolute (operand_of line tokens)
+
+-- The size of a displacement that an operand doesn't say: for a known place of the section the shortest, else the one that holds there.
+abbrev pub default_size : Narrow → (section : ℕ) → Result Value ExprError → Option Narrow
+default_size size section (Ok (value.Section s offset)) = if s == section then None else Some size
+default_size size section (Ok (value.Absolute n)) = Some size
+default_size size section (Ok (value.External i offset)) = Some size
+default_size size section (Err e) = Some size
+
+abbrev pub mode_by_default : Narrow → (section : ℕ) → Result Value ExprError → Mode → Mode
+mode_by_default size section v (mode.Relative None deferred) = mode.Relative (default_size size section v) deferred
+mode_by_default size section v m = m
+
+abbrev pub by_default : Narrow → (section : ℕ) → Addressed → Addressed
+by_default size section a = record a { mode = mode_by_default size section a.value a.mode }
 
 -- the modes that have an expression
 abbrev pub has_expression : Mode → Bool

@@ -28,7 +28,7 @@ use Rattle.vax_asm_statement.specs.Parts.{parts}
 use Rattle.vax_asm_instruction.specs.declared.placing.Addressed.{Addressed}
 use Rattle.vax_word.specs.Arithmetic.{bytes_of}
 use Rattle.vax_word.specs.declared.Size.{Size}
-use Rattle.vax_asm_instruction.specs.Placing.{operand_as, has_expression, operand_at, field_at, operand_length}
+use Rattle.vax_asm_instruction.specs.Placing.{by_default, operand_as, has_expression, operand_at, field_at, operand_length}
 
 -- An operand where it stands: how it is addressed, what its field is filled with, and the names then.
 pub record Prepared : Type 0 where
@@ -84,7 +84,7 @@ placed site kind p at s (Some o) = record { at = at + operand_length kind o; pro
 placed site kind p at s None = record { at = at; progress = refused_by s fault.Form }
 
 abbrev pub stands_at : Site → OperandKind → Prepared → (at : ℕ) → Standing → Reached
-stands_at site kind p at s = placed site kind p at s (operand_at kind p.addressed s.sections.current at)
+stands_at site kind p at s = placed site kind p at s (operand_at kind (by_default s.displacement s.sections.current p.addressed) s.sections.current at)
 
 -- the statement, with what `.` is worth in the operand that begins at a place
 abbrev pub site_for : Standing → (at : ℕ) → Site → Site
@@ -93,7 +93,7 @@ site_for s at site = record { dialect = site.dialect; origin = site.origin; line
 -- one operand
 abbrev pub operand_stated : Site → OperandKind → List Token → (at : ℕ) → Standing → Reached
 operand_stated site kind tokens at s =
-    let p = prepared s.dialect (site_for s at site) (operand_as kind site.line tokens) s.scope in
+    let p = prepared s.dialect (site_for s at site) (operand_as s.absolute kind site.line tokens) s.scope in
     stands_at site kind p at (with_scope p.scope s)
 
 -- one more operand

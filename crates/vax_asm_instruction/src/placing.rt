@@ -3,7 +3,7 @@
 ghost use Rattle.std.specs.Prelude.{◌≡◌, ◌≤◌, ◌<◌, ◌+◌, ◌^◌, true, All, IfSome};
 ghost use Rattle.vax_asm_encode.specs.Bytes.{base_width};
 ghost use Rattle.vax_asm_encode.specs.Operands.{may_stand, takes_branch, width_of};
-ghost use Rattle.vax_asm_instruction.specs.Placing.{field_at, has_expression, operand_as, operand_at, operand_length, specified_at, specifier_length};
+ghost use Rattle.vax_asm_instruction.specs.Placing.{by_default, default_size, field_at, has_expression, mode_by_default, mode_under, operand_as, operand_at, operand_length, specified_at, specifier_length};
 ghost use Rattle.vax_isa.specs.Rows.{IsKind};
 ghost use Rattle.vax_lex.specs.Tokens.{IsTokenOf};
 ghost use Rattle.vax_asm_statement.specs.Modes.{seen};
@@ -32,14 +32,37 @@ fn takes_branch(kind: OperandKind) -> bool
     }
 }
 
+/// The mode of an operand that is written so, where one that is an expression alone may be absolute.
+fn mode_under(absolute: bool, mode: Mode) -> Mode
+    ensures { result ≡ mode_under absolute mode }
+{
+    match mode {
+        Mode::Relative {
+            size: None,
+            deferred: false,
+        } if absolute => Mode::Absolute,
+        other => other,
+    }
+}
+
 /// How an operand of a kind is written. An instruction branches to an expression, whatever that looks like.
-pub(crate) fn operand_as<'a>(kind: OperandKind, line: &[u8], tokens: &'a [Token]) -> Written<'a>
+pub(crate) fn operand_as<'a>(
+    absolute: bool,
+    kind: OperandKind,
+    line: &[u8],
+    tokens: &'a [Token],
+) -> Written<'a>
     requires { All (IsTokenOf line.now) tokens.now }
-    ensures written { seen result ≡ operand_as kind line.now tokens.now }
+    ensures written { seen result ≡ operand_as absolute kind line.now tokens.now }
     ensures tokens { All (IsTokenOf line.now) result.expression.now }
 {
     if !takes_branch(kind) {
-        return operand(line, tokens);
+        let written = operand(line, tokens);
+        return Written {
+            mode: mode_under(absolute, written.mode),
+            expression: written.expression,
+            index: written.index,
+        };
     }
     Written {
         mode: Mode::Relative {
@@ -48,6 +71,43 @@ pub(crate) fn operand_as<'a>(kind: OperandKind, line: &[u8], tokens: &'a [Token]
         },
         expression: tokens,
         index: None,
+    }
+}
+
+/// The size of a displacement that an operand doesn't say; none where it is the shortest to a known place of the section.
+fn default_size(size: Narrow, section: u32, value: Result<Value, ExprError>) -> Option<Narrow>
+    ensures { result ≡ default_size size section value }
+{
+    match value {
+        Ok(Value::Section { section: of, .. }) if of == section => None,
+        _ => Some(size),
+    }
+}
+
+/// The mode of an operand with this value, with the size of its displacement where it doesn't say it.
+fn mode_by_default(size: Narrow, section: u32, value: Result<Value, ExprError>, mode: Mode) -> Mode
+    ensures { result ≡ mode_by_default size section value mode }
+{
+    match mode {
+        Mode::Relative {
+            size: None,
+            deferred,
+        } => Mode::Relative {
+            size: default_size(size, section, value),
+            deferred,
+        },
+        other => other,
+    }
+}
+
+/// An operand with the size of its displacement where it doesn't say it.
+pub(crate) fn by_default(size: Narrow, section: u32, addressed: Addressed) -> Addressed
+    ensures { result ≡ by_default size section addressed }
+{
+    Addressed {
+        mode: mode_by_default(size, section, addressed.value, addressed.mode),
+        index: addressed.index,
+        value: addressed.value,
     }
 }
 

@@ -14,7 +14,9 @@ ghost use Rattle.vax_asm_scope.specs.Kept.{scope_of};
 ghost use Rattle.vax_asm_statement.specs.Modes.{seen};
 ghost use Rattle.vax_asm_statement.specs.Parts.{parts};
 
-use crate::placing::{Addressed, field_at, has_expression, operand_as, operand_at, operand_length};
+use crate::placing::{
+    Addressed, by_default, field_at, has_expression, operand_as, operand_at, operand_length,
+};
 use std::alloc::Global;
 use std::rc::Rc;
 use vax_asm_encode::{Field, Operand, field_of};
@@ -154,7 +156,8 @@ fn place(
     ensures near { IfOk result (λ r. r.at ≤ at + 9) }
 {
     let section = u32::try_from(standing.layout.number()).map_err(|_| NoMemory)?;
-    let Some(operand) = operand_at(kind, prepared.addressed, section, at) else {
+    let addressed = by_default(standing.displacement, section, prepared.addressed);
+    let Some(operand) = operand_at(kind, addressed, section, at) else {
         return Ok(Reached {
             at,
             fault: Some(FaultKind::Form),
@@ -208,7 +211,7 @@ pub(crate) fn state_operand(
         result standing.old standing.new }
     ensures near { IfOk result (λ r. r.at ≤ at + 9) }
 {
-    let written = operand_as(kind, site.line, tokens);
+    let written = operand_as(standing.absolute, kind, site.line, tokens);
     let here = site_for(standing, site, at)?;
     let prepared = prepare(standing, alloc, here, written)?;
     place(standing, site, kind, prepared, at)

@@ -17,6 +17,11 @@ part_at line parts xs i d is all h =
     let mapped : Q (map now xs) = subst Q (sym is) all in
     subst P (get_or-map now xs i d [] h) (mapped i [] (rw (length-map xs now) h))
 
+-- each is
+pub all_within : (line : List ℕ) (parts : List (List Token)) (xs : List (Bor (List Token))) → map (λ s. s.now) xs ≡ parts → All (All (IsTokenOf line)) parts
+    → All (λ (s : Bor (List Token)). All (IsTokenOf line) s.now) xs
+all_within line parts xs is all i d h = part_at line parts xs i d is all h
+
 -- where the line is the same
 pub part_on : (l line : List ℕ) (parts : List (List Token)) (xs : List (Bor (List Token))) (i : ℕ) (d : Bor (List Token)) → l ≡ line → map (λ s. s.now) xs ≡ parts → All (All (IsTokenOf line)) parts → i < length xs
     → All (IsTokenOf l) (slice_index_or xs i d).now

@@ -5,7 +5,7 @@ use Rattle.vax_asm_data.specs.Data.{unless_none}
 use Rattle.vax_asm_first.specs.Standing.{Standing}
 use Rattle.vax_asm_labels.specs.Naming.{next_block}
 use Rattle.vax_asm_labels.specs.declared.switches.Function.{Function}
-use Rattle.vax_asm_labels.specs.declared.switches.Function.TheVariants.{Idle, Always, Never, LongBlocks}
+use Rattle.vax_asm_labels.specs.declared.switches.Function.TheVariants.{Idle, Always, Absolute, LongBlocks}
 use Rattle.vax_asm_statement.specs.Items.{name_alone}
 use Rattle.vax_asm_statement.specs.Parts.{parts}
 use Rattle.vax_lex.specs.Characters.{spells}
@@ -28,7 +28,7 @@ abbrev pub function_of : List ℕ → Option Function
 function_of name =
     if is_called (codes "LOCAL_BLOCK") (codes "LSB") name then Some LongBlocks
     else (if is_called (codes "GLOBAL") (codes "GBL") name then Some Always
-    else (if is_called (codes "ABSOLUTE") (codes "AMA") name then Some Never
+    else (if is_called (codes "ABSOLUTE") (codes "AMA") name then Some Absolute
     else (if is_idle name then Some Idle
     else None)))
 
@@ -46,7 +46,7 @@ abbrev pub switched : Bool → Option Function → Standing → Result Standing 
 switched on None s = Err fault.Form
 switched on (Some Idle) s = Ok s
 switched on (Some Always) s = if on then Ok s else Err fault.Form
-switched on (Some Never) s = if on then Err fault.Form else Ok s
+switched on (Some Absolute) s = Ok (record s { absolute = on })
 switched on (Some LongBlocks) s = Ok (record s { scope = next_block (not on) s.scope; keeps_block = on })
 
 abbrev pub then_switched : Bool → Option Function → Result Standing FaultKind → Result Standing FaultKind

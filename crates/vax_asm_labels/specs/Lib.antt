@@ -1,3 +1,5 @@
+pub mod Contexts
+pub mod Defaults
 pub mod Functions
 pub mod Naming
 pub mod View

@@ -30,12 +30,13 @@ pub(crate) fn share(
 }
 
 /// Begins a block of local labels, unless the one before goes on.
-pub(crate) fn next_block(scope: &mut Scope, alloc: Global, keeps: bool)
-    ensures { scope_of scope.new ≡ next_block keeps (scope_of scope.old) }
+pub(crate) fn next_block(scope: &mut Scope, alloc: Global, keeps: bool) -> Result<(), NoMemory>
+    ensures { OnOk result (scope_of scope.new ≡ next_block keeps (scope_of scope.old)) }
 {
     if !keeps {
-        scope.begin_block(alloc);
+        scope.begin_block(alloc)?;
     }
+    Ok(())
 }
 
 /// A label that isn't local: it begins a block of local labels. After a fault all is as before.
@@ -58,7 +59,9 @@ pub(crate) fn define(
     let Ok(()) = share(&mut standing.scope, alloc, global, name) else {
         return Err(Refused::NoMemory);
     };
-    next_block(&mut standing.scope, alloc, standing.keeps_block);
+    let Ok(()) = next_block(&mut standing.scope, alloc, standing.keeps_block) else {
+        return Err(Refused::NoMemory);
+    };
     Ok(())
 }
 

@@ -2,10 +2,12 @@
 //! Reference Manual, "VAX MACRO source statement format" and "VAX MACRO assembler directives").
 //!
 //! Each call carries out one statement where it stands: [`label`] `name:`, [`assignment`] `name = e`, [`section`] `.PSECT`,
-//! [`entry`] `.ENTRY`, [`names`] `.GLOBAL` and `.EXTERNAL`, [`functions`] `.ENABLE` and `.DISABLE`, and [`end`] `.END`.
+//! [`save`] `.SAVE_PSECT`, [`restore`] `.RESTORE_PSECT`, [`entry`] `.ENTRY`, [`names`] `.GLOBAL` and `.EXTERNAL`, [`functions`] `.ENABLE` and `.DISABLE`, [`default`] `.DEFAULT`, and [`end`] `.END`.
 #![tactic(auto)]
 
 mod assignments;
+mod contexts;
+mod defaults;
 mod entries;
 mod labels;
 mod operands;
@@ -13,6 +15,8 @@ mod sections;
 mod switches;
 
 pub use assignments::assignment;
+pub use contexts::{restore, save};
+pub use defaults::default;
 pub use entries::{end, entry, names};
 pub use labels::label;
 pub use sections::section;

@@ -21,6 +21,12 @@ use vax_asm_statement::{Attribute, attribute_named, name_alone, parts, text_of};
 use vax_dialect::Dialect;
 use vax_lex::{CanonicalName, Token, TokenKind, spells};
 
+/// No attributes.
+pub(crate) const NOTHING_SAID: Attributes = Attributes {
+    align: None,
+    write: None,
+};
+
 /// The attribute with this name.
 #[tactic(auto, using(crate::proofs::Attributes::unnamed))]
 fn attribute_of(name: &[u8]) -> Option<Attribute>
@@ -140,18 +146,37 @@ fn attributes_of(dialect: Dialect, line: &[u8], operands: &[&[Token]]) -> Option
     ensures { result
         ≡ attributes_from dialect line.now (map (λ o. o.now) operands.now) (Some nothing_said) }
 {
-    let mut said = Some(Attributes {
-        align: None,
-        write: None,
-    });
+    let mut said = Some(NOTHING_SAID);
     for operand in operands {
         said = with_attribute(attribute_at(dialect, line, operand), said);
     }
     said
 }
 
-/// Chooses a section.
+/// Chooses the section with a name.
 #[tactic(auto, using(crate::proofs::Selecting::select_stands, crate::proofs::Selecting::select_fails))]
+pub(crate) fn choose_named(
+    standing: &mut Standing,
+    alloc: Global,
+    name: &[u8],
+    attributes: Attributes,
+) -> Result<(), Refused>
+    requires { Within attributes }
+    ensures { States (section_chosen (Some name.now) (Some attributes))
+        result standing.old standing.new }
+{
+    match standing.layout.select(alloc, name, attributes) {
+        Ok(()) => {}
+        Err(Refusal::NoMemory) => return Err(Refused::NoMemory),
+        Err(Refusal::Conflict | Refusal::TooLong) => return Err(Refused::Fault(FaultKind::Form)),
+    }
+    let Ok(()) = next_block(&mut standing.scope, alloc, standing.keeps_block) else {
+        return Err(Refused::NoMemory);
+    };
+    Ok(())
+}
+
+/// Chooses a section.
 fn choose(
     standing: &mut Standing,
     alloc: Global,
@@ -168,13 +193,7 @@ fn choose(
     let Some(attributes) = attributes else {
         return Err(Refused::Fault(FaultKind::Form));
     };
-    match standing.layout.select(alloc, name.as_bytes(), attributes) {
-        Ok(()) => {}
-        Err(Refusal::NoMemory) => return Err(Refused::NoMemory),
-        Err(Refusal::Conflict | Refusal::TooLong) => return Err(Refused::Fault(FaultKind::Form)),
-    }
-    next_block(&mut standing.scope, alloc, standing.keeps_block);
-    Ok(())
+    choose_named(standing, alloc, name.as_bytes(), attributes)
 }
 
 /// `.PSECT` alone: the section without a name, where the dialect goes on in it.
@@ -185,16 +204,7 @@ fn choose_unnamed(standing: &mut Standing, alloc: Global) -> Result<(), Refused>
     if !standing.dialect.has_unnamed_psect() {
         return Err(Refused::Fault(FaultKind::Count));
     }
-    let attributes = Attributes {
-        align: None,
-        write: None,
-    };
-    choose(
-        standing,
-        alloc,
-        Some(CanonicalName::of(b"")),
-        Some(attributes),
-    )
+    choose_named(standing, alloc, b"", NOTHING_SAID)
 }
 
 /// `.PSECT name,attributes`: the section with this name is chosen, which begins if there is none. A block of local labels

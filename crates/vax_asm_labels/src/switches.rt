@@ -18,8 +18,8 @@ pub enum Function {
     Idle,
     /// `GLOBAL`: it can't be disabled.
     Always,
-    /// `ABSOLUTE`: it can't be enabled.
-    Never,
+    /// `ABSOLUTE`: an operand that is an expression alone is absolute.
+    Absolute,
     /// `LOCAL_BLOCK`: a block of local labels goes on past labels and sections.
     LongBlocks,
 }
@@ -49,7 +49,7 @@ fn function_of(name: &[u8]) -> Option<Function>
     } else if is_called(b"GLOBAL", b"GBL", name) {
         Some(Function::Always)
     } else if is_called(b"ABSOLUTE", b"AMA", name) {
-        Some(Function::Never)
+        Some(Function::Absolute)
     } else if is_idle(name) {
         Some(Function::Idle)
     } else {
@@ -78,9 +78,14 @@ fn switch(
     match function {
         Some(Function::Idle) => Ok(()),
         Some(Function::Always) if on => Ok(()),
-        Some(Function::Never) if !on => Ok(()),
+        Some(Function::Absolute) => {
+            standing.absolute = on;
+            Ok(())
+        }
         Some(Function::LongBlocks) => {
-            next_block(&mut standing.scope, alloc, !on);
+            let Ok(()) = next_block(&mut standing.scope, alloc, !on) else {
+                return Err(Refused::NoMemory);
+            };
             standing.keeps_block = on;
             Ok(())
         }

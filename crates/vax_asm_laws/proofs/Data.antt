@@ -2,7 +2,7 @@
 use Rattle.std.proofs.Common.{◌≡◌, ◌*◌, ℕ, pos, Bool, true, false, cond, List, [], ◌∷◌, length, map, Option, Some, None, Result, Ok, Err, refl, ap, subst, ◌∙◌}
 use Rattle.std.proofs.Math.Nat.{mul_comm}
 use Rattle.std.proofs.lemmas.List.{length-replicate}
-use Rattle.vax_asm_data.specs.Data.{Ending, Plain, Counted_first, Zero_last, addresses_stated, align_by, align_stated, align_to, at_most_one, before_pieces, behind_pieces, boundary, boundary_named, characters_of, count_byte, count_stated, data_stated, even_stated, expression_stated, fixed, is_nothing, item_stated, item_told, items_stated, one_or_two, behind_fill, byte_of, fill_by, fill_where, filled_by, filled_to, piece_stated, pieces_length, pieces_stated, placed_item, room, room_by, space_stated, text_by, text_parts, text_stated, to_odd, odd_stated, forward, unless_none, zero_stated}
+use Rattle.vax_asm_data.specs.Data.{Ending, Plain, Counted_first, Zero_last, Described, address_stated, addresses_stated, align_by, align_stated, align_to, at_most_one, before_pieces, behind_pieces, boundary, boundary_named, characters_of, count_stated, count_within, data_stated, descriptor_head, descriptor_stated, even_stated, expression_stated, fixed, is_nothing, item_stated, item_told, items_stated, one_or_two, behind_fill, byte_of, fill_by, fill_where, filled_by, filled_to, piece_stated, place_behind, pieces_length, pieces_stated, placed_item, room, room_by, space_stated, text_by, text_parts, text_stated, to_odd, odd_stated, forward, unless_none, zero_stated}
 use Rattle.std.specs.Prelude.{◌&&◌, ◌-◌, ◌^◌, nat_lt, replicate, if◌then◌else◌}
 use Rattle.vax_dialect.specs.Differences.{has_empty_items, has_further_directives}
 use Rattle.vax_asm_second.proofs.Fitting.{data_length}
@@ -13,7 +13,7 @@ use Rattle.vax_lex.specs.Grammar.{symbols_of}
 use Rattle.vax_lex.specs.declared.value.Value.TheVariants as value
 use Rattle.vax_macro.specs.declared.error.FaultKind.{FaultKind}
 use Rattle.vax_macro.specs.declared.error.FaultKind.TheVariants as fault
-use Rattle.vax_asm_encode.specs.Operands.{item_field, item_size}
+use Rattle.vax_asm_encode.specs.Operands.{item_bytes, item_field}
 use Rattle.vax_asm_encode.specs.declared.operand.DataKind.{DataKind}
 use Rattle.vax_asm_encode.specs.declared.operand.DataKind.TheVariants.{Number}
 use Rattle.vax_asm_first.specs.Faults.{fault_of_value, unless_place}
@@ -24,8 +24,6 @@ use Rattle.vax_asm_first.specs.declared.types.Content.TheVariants.{Data}
 use Rattle.vax_asm_first.specs.declared.types.Origin.{Origin}
 use Rattle.vax_asm_statement.specs.Items.{Item, Piece, Characters, Value as ByteValue, item_of, pieces_of, whole}
 use Rattle.vax_asm_statement.specs.Parts.{parts}
-use Rattle.vax_word.specs.Arithmetic.{bytes_of}
-use Rattle.vax_word.specs.declared.Size.{Size}
 use Rattle.vax_word.specs.declared.Size.TheVariants as size
 use Rattle.vax_asm_laws.specs.Counted.{AreCounted, BeginsAt, part_length}
 use Rattle.vax_asm_laws.specs.Lying.{MayStand}
@@ -40,7 +38,7 @@ IsCounted s = AreCounted s.sections
 
 pub with_sections_goes : (s t : Standing) (r : Result (Sections Fixup) Refusal) → ((u : Sections Fixup) → r ≡ Ok u → Step s.sections u) → with_sections s r ≡ Ok t → Goes s t
 with_sections_goes s t (Ok u) h e =
-    let same : u ≡ t.sections = ap (λ (x : Standing). x.sections) (let all : record { dialect = s.dialect; scope = s.scope; keeps_block = s.keeps_block; sections = u; transfer = s.transfer } ≡ t = cc in all) in
+    let same : u ≡ t.sections = ap (λ (x : Standing). x.sections) (let all : record { dialect = s.dialect; scope = s.scope; keeps_block = s.keeps_block; absolute = s.absolute; displacement = s.displacement; sections = u; saved = s.saved; transfer = s.transfer } ≡ t = cc in all) in
     subst (λ (x : Sections Fixup). Step s.sections x) same (h u refl)
 with_sections_goes s t (Err refusal) h e = cc
 
@@ -65,7 +63,7 @@ done_goes s t p h e = subst (λ (x : Standing). Goes s x) (done_is p.fault p.sta
 
 fixed_goes : (k : DataKind) (site : Site) (n : ℕ) (filling : Filling) (s : Standing) → IsCounted s → Goes s (fixed k site n filling s).standing
 fixed_goes k site n filling s c =
-    added_goes (bytes_of (item_size k) * n) (Field (record { origin = site.origin; at = (current_of s.sections).size; content = Data k n; filling = filling })) s c (data_length (item_size k) n 0 ∙ mul_comm n (bytes_of (item_size k))) refl tt
+    added_goes (item_bytes k * n) (Field (record { origin = site.origin; at = (current_of s.sections).size; content = Data k n; filling = filling })) s c (data_length k n 0 ∙ mul_comm n (item_bytes k)) refl tt
 
 placed_goes : (k : DataKind) (site : Site) (f : Option FaultKind) (n : Result ℕ FaultKind) (filling : Filling) (s : Standing) → IsCounted s → Goes s (placed_item k site f n filling s).standing
 placed_goes k site None (Ok n) filling s c = fixed_goes k site n filling s c
@@ -138,21 +136,33 @@ count_goes : (o : Option ℕ) (s : Standing) → IsCounted s → Goes s (count_s
 count_goes (Some n) s c = added_goes 1 (Bytes (n ∷ [])) s c refl tt tt
 count_goes None s c = step_same s.sections c
 
-before_goes : (ending : Ending) (n : ℕ) (s : Standing) → IsCounted s → Goes s (before_pieces ending n s).standing
-before_goes Plain n s c = step_same s.sections c
-before_goes Counted_first n s c = count_goes (count_byte n) s c
-before_goes Zero_last n s c = step_same s.sections c
+address_goes : (site : Site) (p : Progress) → IsCounted p.standing → Goes p.standing (address_stated site p).standing
+address_goes site p c = fixed_goes (Number size.L) site 1 (Known (place_behind 8 site.here)) p.standing c
+
+descriptor_goes : (o : Option ℕ) (site : Site) (s : Standing) → IsCounted s → Goes s (descriptor_stated o site s).standing
+descriptor_goes (Some n) site s c =
+    let first : Progress = added 4 (Bytes (descriptor_head n)) s in
+    let front : Goes s first.standing = added_goes 4 (Bytes (descriptor_head n)) s c refl tt tt in
+    step_then s.sections first.standing.sections (address_stated site first).standing.sections front (address_goes site first front.counted)
+descriptor_goes None site s c = step_same s.sections c
+
+before_goes : (ending : Ending) (site : Site) (n : ℕ) (s : Standing) → IsCounted s → Goes s (before_pieces ending site n s).standing
+before_goes Plain site n s c = step_same s.sections c
+before_goes Counted_first site n s c = count_goes (count_within 255 n) s c
+before_goes Zero_last site n s c = step_same s.sections c
+before_goes Described site n s c = descriptor_goes (count_within 65535 n) site s c
 
 behind_goes : (ending : Ending) (p : Progress) → IsCounted p.standing → Goes p.standing (behind_pieces ending p).standing
 behind_goes Plain p c = step_same p.standing.sections c
 behind_goes Counted_first p c = step_same p.standing.sections c
+behind_goes Described p c = step_same p.standing.sections c
 behind_goes Zero_last p c = added_goes 1 (Zeros 1) p.standing c refl tt tt
 
 text_parts_go : (ending : Ending) (site : Site) (pieces : List Piece) (s : Standing) → IsCounted s → Goes s (text_parts ending site pieces s).standing
 text_parts_go ending site pieces s c =
-    let first : Progress = before_pieces ending (pieces_length site.line pieces) s in
+    let first : Progress = before_pieces ending site (pieces_length site.line pieces) s in
     let second : Progress = pieces_stated site pieces first in
-    let a : Goes s first.standing = before_goes ending (pieces_length site.line pieces) s c in
+    let a : Goes s first.standing = before_goes ending site (pieces_length site.line pieces) s c in
     let b : Goes first.standing second.standing = pieces_go site pieces first a.counted in
     step_then s.sections second.standing.sections (behind_pieces ending second).standing.sections
     (step_then s.sections first.standing.sections second.standing.sections a b)
@@ -169,12 +179,12 @@ text_goes ending origin line tokens s t c e =
 
 -- ---- room and boundaries
 
-room_goes : (k : Size) (s t : Standing) (n : Result ℕ FaultKind) → IsCounted s → room k s n ≡ Ok t → Goes s t
+room_goes : (k : DataKind) (s t : Standing) (n : Result ℕ FaultKind) → IsCounted s → room k s n ≡ Ok t → Goes s t
 room_goes k s t (Ok n) c e =
-    with_sections_goes s t (put (bytes_of k * n) (Zeros (bytes_of k * n)) s.sections) (λ u made. put_step (bytes_of k * n) (Zeros (bytes_of k * n)) s.sections u c refl tt tt made) e
+    with_sections_goes s t (put (item_bytes k * n) (Zeros (item_bytes k * n)) s.sections) (λ u made. put_step (item_bytes k * n) (Zeros (item_bytes k * n)) s.sections u c refl tt tt made) e
 room_goes k s t (Err kind) c e = cc
 
-room_by_goes : (k : Size) (site : Site) (count : Option (List Token)) (s t : Standing) → IsCounted s → room_by k site count s ≡ Ok t → Goes s t
+room_by_goes : (k : DataKind) (site : Site) (count : Option (List Token)) (s t : Standing) → IsCounted s → room_by k site count s ≡ Ok t → Goes s t
 room_by_goes k site count s t c e =
     let n = counted site count s.scope in
     room_goes k (with_scope n.scope s) t n.number c e
@@ -184,7 +194,7 @@ at_most_goes [] stated s t h e = h None e
 at_most_goes (one ∷ []) stated s t h e = h (Some one) e
 at_most_goes (one ∷ two ∷ more) stated s t h e = cc
 
-pub space_goes : (k : Size) (origin : Origin) (line : List ℕ) (tokens : List Token) (s t : Standing) → IsCounted s → space_stated k origin line tokens s ≡ Ok t → Goes s t
+pub space_goes : (k : DataKind) (origin : Origin) (line : List ℕ) (tokens : List Token) (s t : Standing) → IsCounted s → space_stated k origin line tokens s ≡ Ok t → Goes s t
 unfolding space_stated
 space_goes k origin line tokens s t c e =
     at_most_goes (parts tokens) (λ count. room_by k (site_of origin line s) count s) s t (λ o made. room_by_goes k (site_of origin line s) o s t c made) e

@@ -7,7 +7,7 @@ use Rattle.std.specs.Prelude.{◌==◌, ◌&&◌, ◌^◌, not, codes, if◌then
 use Rattle.std.specs.Str.{bytes_eq}
 use Rattle.vax_asm.specs.Placing.{FaultyLabel, Faulty, Placed, Stands, also, behind_label, beside, body_stated, directed, directive_named, if_wide, instructed, instruction_named, is_bad, is_listing, is_wide, operated_by, placed, placed_by, stated, stated_by, token_of, with_range}
 use Rattle.vax_asm.specs.Walk.{Assembly}
-use Rattle.vax_asm_data.specs.Data.{Ending, Plain, Counted_first, Zero_last, addresses_stated, align_by, align_stated, align_to, at_most_one, before_pieces, behind_pieces, boundary, boundary_named, count_byte, count_stated, data_stated, even_stated, expression_stated, is_nothing, item_stated, items_stated, odd_stated, one_or_two, behind_fill, byte_of, fill_by, fill_where, filled_by, piece_stated, pieces_length, pieces_stated, placed_item, room, room_by, space_stated, text_by, text_stated, unless_none, zero_stated}
+use Rattle.vax_asm_data.specs.Data.{Ending, Plain, Counted_first, Zero_last, Described, address_stated, addresses_stated, align_by, align_stated, align_to, at_most_one, before_pieces, behind_pieces, boundary, boundary_named, count_stated, count_within, data_stated, descriptor_head, descriptor_stated, even_stated, expression_stated, is_nothing, item_stated, items_stated, odd_stated, one_or_two, behind_fill, byte_of, fill_by, fill_where, filled_by, piece_stated, pieces_length, pieces_stated, placed_item, room, room_by, space_stated, text_by, text_stated, unless_none, zero_stated}
 use Rattle.vax_dialect.specs.Differences.{assigns_places, has_empty_items, has_further_directives, has_unnamed_psect}
 use Rattle.vax_asm_encode.specs.declared.operand.DataKind.{DataKind}
 use Rattle.vax_asm_encode.specs.declared.operand.DataKind.TheVariants.{Number}
@@ -15,14 +15,17 @@ use Rattle.vax_asm_encode.specs.declared.operand.Operand.{Operand}
 use Rattle.vax_dialect.specs.declared.Dialect.{Dialect}
 use Rattle.vax_asm_first.specs.Fixups.{Assignment as Waiting, Filling, Fixup}
 use Rattle.vax_asm_first.specs.Progress.{Progress, Site, added, after_change, begun, counted, done, done_by, joined, site_of}
-use Rattle.vax_asm_first.specs.Standing.{Standing, here_at, here_in, misplaces, told, with_scope, with_sections}
+use Rattle.vax_asm_first.specs.Standing.{Saved, Standing, block_of, here_at, here_in, last_of, misplaces, told, with_scope, with_sections, without_last}
 use Rattle.vax_asm_first.specs.declared.types.Origin.{Origin}
-use Rattle.vax_asm_instruction.specs.Placing.{has_expression, operand_as, operand_at}
+use Rattle.vax_asm_instruction.specs.Placing.{by_default, has_expression, operand_as, operand_at}
 use Rattle.vax_asm_instruction.specs.Stating as instruction
 use Rattle.vax_asm_instruction.specs.Stating.{Reached, fault_at, if_counted, instruction_stated, opcode_stated, operand_stated, operands_stated, prepared, read_of, reference_by, reference_stated, site_for}
+use Rattle.vax_asm_labels.specs.Contexts.{block_restored, block_wanted, restored_by, restored_stated, saved_by, saved_stated}
+use Rattle.vax_asm_labels.specs.Defaults.{default_at, default_stated, displaced_by}
+use Rattle.vax_isa.specs.declared.actions.Narrow.{Narrow}
 use Rattle.vax_asm_labels.specs.Functions.{all_switched, function_at, functions_stated, switched, then_switched}
 use Rattle.vax_asm_labels.specs.declared.switches.Function.{Function}
-use Rattle.vax_asm_labels.specs.declared.switches.Function.TheVariants.{Idle, Always, Never, LongBlocks}
+use Rattle.vax_asm_labels.specs.declared.switches.Function.TheVariants.{Idle, Always, Absolute, LongBlocks}
 use Rattle.vax_asm_labels.specs.Naming.{next_block, appears, assigned_by, assignment_stated, attributes_from, begins, begins_at, chosen, defined, end_by, end_stated, entry_named, entry_stated, is_place, label_stated, local_stated, name_assigned, name_in, name_of, named, names_from, names_stated, nothing_said, not_assigned, section_by, section_chosen, section_stated, moved_to, place_assigned, place_moved, shared, target, unnamed_chosen, without_waiting, symbol_stated, two_alone, with_name}
 use Rattle.vax_asm_labels.specs.Naming as naming
 use Rattle.vax_asm_names.specs.Names as table
@@ -117,9 +120,9 @@ local_lasts text s None = opens s.sources
 here_lasts : (here : Value) (s : Scope) → Lasts s (mean_here here s).scope
 here_lasts here s = stay_then s.sources (s.sources ++ ToCome ∷ []) (mean_here here s).scope.sources (opens s.sources) (fills (length s.sources) (Given here) (s.sources ++ ToCome ∷ []))
 
-mean_by : (dot local : Bool) (here : Value) (text : List ℕ) (s : Scope) → Lasts s (if dot then mean_here here s else (if local then mean_local text s (s.names.locals text) else mean_name (entry text s))).scope
+mean_by : (dot local : Bool) (here : Value) (text : List ℕ) (s : Scope) → Lasts s (if dot then mean_here here s else (if local then mean_local text s (table.locals_of s.names text) else mean_name (entry text s))).scope
 mean_by true local here text s = here_lasts here s
-mean_by false true here text s = local_lasts text s (s.names.locals text)
+mean_by false true here text s = local_lasts text s (table.locals_of s.names text)
 mean_by false false here text s = entry_lasts text s
 
 mean_lasts : (here : Value) (text : List ℕ) (s : Scope) → Lasts s (mean here text s).scope
@@ -161,7 +164,7 @@ locally_by text v s (Ok l) =
 locally_by text v s (Err e) = tt
 
 locally_lasts : (text : List ℕ) (v : Value) (s : Scope) → ScopeIn s (labelled_locally text v s)
-locally_lasts text v s = locally_by text v s (table.labelled_locally (length s.sources) (s.names.locals text))
+locally_lasts text v s = locally_by text v s (table.labelled_locally (length s.sources) (table.locals_of s.names text))
 
 shared_lasts : (global : Bool) (name : List ℕ) (s : Scope) → Lasts s (shared global name s)
 shared_lasts true name s = entry_lasts name s
@@ -266,27 +269,35 @@ count_lasts : (o : Option ℕ) (s : Standing) → Lasts s.scope (count_stated o 
 count_lasts (Some n) s = added_lasts _ _ s
 count_lasts None s = stay_same s.scope.sources
 
-before_lasts : (ending : Ending) (n : ℕ) (s : Standing) → Lasts s.scope (before_pieces ending n s).standing.scope
-before_lasts Plain n s = stay_same s.scope.sources
-before_lasts Counted_first n s = count_lasts (count_byte n) s
-before_lasts Zero_last n s = stay_same s.scope.sources
+descriptor_lasts : (o : Option ℕ) (site : Site) (s : Standing) → Lasts s.scope (descriptor_stated o site s).standing.scope
+descriptor_lasts (Some n) site s =
+    let first : Progress = added 4 (Bytes (descriptor_head n)) s in
+    stay_then s.scope.sources first.standing.scope.sources (address_stated site first).standing.scope.sources (added_lasts _ _ s) (added_lasts _ _ first.standing)
+descriptor_lasts None site s = stay_same s.scope.sources
+
+before_lasts : (ending : Ending) (site : Site) (n : ℕ) (s : Standing) → Lasts s.scope (before_pieces ending site n s).standing.scope
+before_lasts Plain site n s = stay_same s.scope.sources
+before_lasts Counted_first site n s = count_lasts (count_within 255 n) s
+before_lasts Zero_last site n s = stay_same s.scope.sources
+before_lasts Described site n s = descriptor_lasts (count_within 65535 n) site s
 
 behind_lasts : (ending : Ending) (p : Progress) → Lasts p.standing.scope (behind_pieces ending p).standing.scope
 behind_lasts Plain p = stay_same p.standing.scope.sources
 behind_lasts Counted_first p = stay_same p.standing.scope.sources
+behind_lasts Described p = stay_same p.standing.scope.sources
 behind_lasts Zero_last p = added_lasts 1 (Zeros 1) p.standing
 
 text_in_by : (ending : Ending) (site : Site) (s : Standing) (o : Option (List Piece)) → StandIn s (text_by ending site s o)
 text_in_by ending site s None = tt
 text_in_by ending site s (Some pieces) =
-    let first : Progress = before_pieces ending (pieces_length site.line pieces) s in
+    let first : Progress = before_pieces ending site (pieces_length site.line pieces) s in
     let middle : Progress = pieces_stated site pieces first in
     let last : Progress = behind_pieces ending middle in
     done_in s last
-    (stay_then s.scope.sources first.standing.scope.sources last.standing.scope.sources (before_lasts ending (pieces_length site.line pieces) s)
+    (stay_then s.scope.sources first.standing.scope.sources last.standing.scope.sources (before_lasts ending site (pieces_length site.line pieces) s)
     (stay_then first.standing.scope.sources middle.standing.scope.sources last.standing.scope.sources (pieces_last site pieces first) (behind_lasts ending middle)))
 
-room_in : (k : Size) (s : Standing) (n : Result ℕ FaultKind) → StandIn s (room k s n)
+room_in : (k : DataKind) (s : Standing) (n : Result ℕ FaultKind) → StandIn s (room k s n)
 room_in k s (Ok n) = sections_in s _
 room_in k s (Err kind) = tt
 
@@ -365,6 +376,35 @@ section_in : (line : List ℕ) (found : List (List Token)) (s : Standing) → St
 section_in line [] s = unnamed_in (has_unnamed_psect s.dialect) s
 section_in line (name ∷ attributes) s = section_in_by (name_of line name) (attributes_from s.dialect line attributes (Some nothing_said)) s
 
+displaced_in : (size : Option Narrow) (s : Standing) → StandIn s (displaced_by size s)
+displaced_in (Some size) s = stay_same s.scope.sources
+displaced_in None s = tt
+
+aside_in : (b : Bool) (s u : Standing) → u.scope ≡ s.scope → StandIn s (if b then Ok u else Err fault.Depth)
+aside_in true s u same = subst (λ (x : Scope). Lasts s.scope x) (sym same) (stay_same s.scope.sources)
+aside_in false s u same = tt
+
+saved_in : (wanted : Result Bool FaultKind) (s : Standing) → StandIn s (saved_by wanted s)
+saved_in (Ok with_block) s =
+    let context : Saved = record { section = (current_of s.sections).name; block = block_of with_block s } in
+    aside_in (nat_lt (length s.saved) 31) s (record s { saved = s.saved ++ context ∷ [] }) refl
+saved_in (Err kind) s = tt
+
+block_in : (block : Option ℕ) (s : Standing) (r : Result Standing FaultKind) → StandIn s r → StandIn s (block_restored block r)
+block_in (Some i) s (Ok u) h = h
+block_in None s (Ok u) h = h
+block_in (Some i) s (Err kind) h = tt
+block_in None s (Err kind) h = tt
+
+restored_in_by : (saved : Option Saved) (s : Standing) → StandIn s (restored_by saved s)
+restored_in_by (Some saved) s = block_in saved.block s (section_chosen (Some saved.section) (Some nothing_said) s) (section_in_by (Some saved.section) (Some nothing_said) s)
+restored_in_by None s = tt
+
+restored_in : (tokens : List Token) (s : Standing) → StandIn s (restored_stated tokens s)
+unfolding restored_stated
+restored_in [] s = restored_in_by (last_of s.saved) (without_last s)
+restored_in (x ∷ tokens) s = tt
+
 symbol_in : (global : Bool) (name : List ℕ) (s : Standing) → StandIn s (symbol_stated global name s)
 symbol_in global name s = defined_in s (begins s.keeps_block global name (labelled name (here_in s.sections) s.scope)) (begins_in s.keeps_block global name s.scope (labelled name (here_in s.sections) s.scope) (labelled_lasts name (here_in s.sections) s.scope))
 
@@ -427,11 +467,11 @@ stands_last site kind p at s None = stay_same s.scope.sources
 
 operand_lasts : (site : Site) (kind : OperandKind) (tokens : List Token) (at : ℕ) (s : Standing) → Lasts s.scope (operand_stated site kind tokens at s).progress.standing.scope
 operand_lasts site kind tokens at s =
-    let o : modes.Operand = operand_as kind site.line tokens in
+    let o : modes.Operand = operand_as s.absolute kind site.line tokens in
     let here : Site = site_for s at site in
     let p = prepared s.dialect here o s.scope in
     stay_then s.scope.sources p.scope.sources (operand_stated site kind tokens at s).progress.standing.scope.sources (prepared_by (has_expression o.mode) (misplaces s.dialect (symbols_of site.line o.expression)) here o s.scope)
-    (stands_last site kind p at (with_scope p.scope s) (operand_at kind p.addressed s.sections.current at))
+    (stands_last site kind p at (with_scope p.scope s) (operand_at kind (by_default s.displacement s.sections.current p.addressed) s.sections.current at))
 
 operands_last : (site : Site) (os : List (List Token)) (kinds : List OperandKind) (r : Reached) → Lasts r.progress.standing.scope (operands_stated site os kinds r).progress.standing.scope
 operands_last site [] kinds r = stay_same r.progress.standing.scope.sources
@@ -467,8 +507,7 @@ switched_in on None s = tt
 switched_in on (Some Idle) s = stay_same s.scope.sources
 switched_in true (Some Always) s = stay_same s.scope.sources
 switched_in false (Some Always) s = tt
-switched_in true (Some Never) s = tt
-switched_in false (Some Never) s = stay_same s.scope.sources
+switched_in on (Some Absolute) s = stay_same s.scope.sources
 switched_in on (Some LongBlocks) s = block_lasts (not on) s.scope s.scope (stay_same s.scope.sources)
 
 then_in : (on : Bool) (f : Option Function) (s : Standing) (r : Result Standing FaultKind) → StandIn s r → StandIn s (then_switched on f r)
@@ -480,7 +519,7 @@ all_in on line [] s r h = h
 all_in on line (part ∷ found) s r h = all_in on line found s (then_switched on (function_at line part) r) (then_in on (function_at line part) s r h)
 
 directed_in : (d : Directive) (origin : Origin) (line : List ℕ) (tokens : List Token) (s : Standing) → StandIn s (directed d origin line tokens s)
-unfolding section_stated entry_stated data_stated addresses_stated text_stated space_stated reference_stated align_stated names_stated functions_stated end_stated
+unfolding section_stated entry_stated saved_stated default_stated data_stated addresses_stated text_stated space_stated reference_stated align_stated names_stated functions_stated end_stated
 directed_in directive.Section origin line tokens s = section_in line (parts tokens) s
 directed_in directive.Entry origin line tokens s = two_in (parts tokens) s _ (λ name mask. entry_in (site_of origin line s) (name_of line name) mask s)
 directed_in (directive.Data kind) origin line tokens s =
@@ -490,6 +529,7 @@ directed_in directive.Address origin line tokens s =
 directed_in directive.Text origin line tokens s = none_in tokens s _ (text_in_by Plain (site_of origin line s) s (text_pieces tokens))
 directed_in directive.CountedText origin line tokens s = none_in tokens s _ (text_in_by Counted_first (site_of origin line s) s (text_pieces tokens))
 directed_in directive.ZeroText origin line tokens s = none_in tokens s _ (text_in_by Zero_last (site_of origin line s) s (text_pieces tokens))
+directed_in directive.DescribedText origin line tokens s = none_in tokens s _ (text_in_by Described (site_of origin line s) s (text_pieces tokens))
 directed_in (directive.Space k) origin line tokens s =
     most_in (parts tokens) s (λ count. room_by k (site_of origin line s) count s)
     (λ o. let c = counted (site_of origin line s) o s.scope in stand_then s (with_scope c.scope s) (room k (with_scope c.scope s) c.number) (counted_lasts (site_of origin line s) o s.scope) (room_in k (with_scope c.scope s) c.number))
@@ -505,6 +545,9 @@ directed_in directive.Global origin line tokens s = none_in tokens s _ (named_in
 directed_in directive.External origin line tokens s = none_in tokens s _ (named_in s (names_from false line (parts tokens) (Some s.scope)) (names_in false line (parts tokens) s.scope (Some s.scope) (stay_same s.scope.sources)))
 directed_in directive.Enable origin line tokens s = none_in tokens s _ (all_in true line (parts tokens) s (Ok s) (stay_same s.scope.sources))
 directed_in directive.Disable origin line tokens s = none_in tokens s _ (all_in false line (parts tokens) s (Ok s) (stay_same s.scope.sources))
+directed_in directive.Default origin line tokens s = two_in (parts tokens) s _ (λ name size. displaced_in (default_at line name size) s)
+directed_in directive.Save origin line tokens s = saved_in (block_wanted line (parts tokens)) s
+directed_in directive.Restore origin line tokens s = restored_in tokens s
 directed_in directive.Listing origin line tokens s = stay_same s.scope.sources
 directed_in directive.End origin line tokens s = end_in line (parts tokens) s
 
@@ -615,7 +658,7 @@ listed_in false false wide s p h = wide_in wide s p h
 placed_in : (origin : Origin) (line : List ℕ) (s : Standing) → PlacedIn s (placed origin line s)
 unfolding placed stated
 placed_in origin line s =
-    let ps = pieces_of line in
+    let ps = pieces_of s.dialect line in
     let p : Parsed = parsed (map token_of ps) in
     listed_in (is_listing s.dialect line p.what) (list_any is_bad ps) (list_any is_wide ps) s (stated origin line p s) (stated_in origin line p.label p.what s)
 

@@ -16,7 +16,6 @@ use Rattle.vax_module.specs.declared.Module.{Module}
 use Rattle.vax_module.specs.declared.Section.{Section}
 use Rattle.vax_asm_first.specs.Fixups.{Assignment, Fixup}
 use Rattle.vax_asm_first.specs.Standing.{Standing}
-use Rattle.vax_asm_encode.specs.Operands.{item_size}
 use Rattle.vax_asm_first.specs.declared.types.Content.{Content}
 use Rattle.vax_asm_first.specs.declared.types.Content.TheVariants as content
 use Rattle.vax_asm_scope.specs.Scope.{external_names}
@@ -25,7 +24,7 @@ use Rattle.vax_asm_laws.specs.Leading.{LiesBehind}
 use Rattle.vax_asm_laws.specs.Counted.{AreCounted, Keeps}
 
 content_length : (c : Content) (n : ℕ) → length (bytes_in c n) ≡ length (bytes_in c 0)
-content_length (content.Data d count) n = data_length (item_size d) count n ∙ sym (data_length (item_size d) count 0)
+content_length (content.Data d count) n = data_length d count n ∙ sym (data_length d count 0)
 content_length (content.Operand kind o) n = operand_is_long kind o n ∙ sym (operand_is_long kind o 0)
 
 written_length : (k : Known) (section at : ℕ) (f : Fixup) (r : _) → length (written k section at f r).bytes ≡ length (bytes_in f.content 0)

@@ -5,7 +5,7 @@ use Rattle.std.proofs.lemmas.List.{length-append}
 use Rattle.std.proofs.lemmas.List.Elements.{All-append, All-cons, All-contains, All-contains_itself, All-head, All-nil, All-tail, All-weaker, Contains-append_left, Contains-append_right}
 use Rattle.std.specs.Prelude.{All, Contains, if◌then◌else◌, slice_get, slice_index_or}
 use Rattle.vax_asm_encode.specs.Bytes.{operand_bytes}
-use Rattle.vax_asm_encode.specs.Operands.{item_size}
+use Rattle.vax_asm_encode.specs.Operands.{item_bytes}
 use Rattle.vax_asm_encode.specs.declared.operand.Field.{Field as Holder}
 use Rattle.vax_asm_first.specs.Fixups.{Assignment, Fixup}
 use Rattle.vax_asm_first.specs.Standing.{Standing}
@@ -27,7 +27,6 @@ use Rattle.vax_module.specs.declared.Module.{Module}
 use Rattle.vax_module.specs.declared.Reloc.{Reloc}
 use Rattle.vax_module.specs.declared.RelocKind.{RelocKind}
 use Rattle.vax_module.specs.declared.Section.{Section}
-use Rattle.vax_word.specs.Arithmetic.{bytes_of}
 use Rattle.vax_asm_laws.specs.Counted.{end_of, part_length, section_at}
 use Rattle.vax_asm_laws.specs.Lying.{AllStand, Held, IsIn, IsOneOr, MayAllStand, MayStand, StandsAt, place_of}
 use Rattle.vax_asm_laws.proofs.Laying.{faulty_is, laid_at, output_length, sections_are}
@@ -52,9 +51,9 @@ contents_within : (c : Content) (section at : ℕ) (f : Holder) (k : RelocKind) 
     → All (Within section at (at + length (bytes_in c 0))) (relocs_in c (record { section = section; offset = at + before_field c; kind = k; target = t }))
 contents_within (content.Data d count) section at f k t h e w =
     let r : Reloc = record { section = section; offset = at + 0; kind = k; target = t } in
-    let step : width_of k ≤ bytes_of (item_size d) = omega (arith, w, data_fits d f e) in
-    wider section (at + 0) (at + 0 + count * bytes_of (item_size d)) at (at + length (bytes_in (content.Data d count) 0)) (omega arith) (omega (arith, data_length (item_size d) count 0))
-    (every count (bytes_of (item_size d)) r) (every_within count (bytes_of (item_size d)) r step)
+    let step : width_of k ≤ item_bytes d = omega (arith, w, data_fits d f e) in
+    wider section (at + 0) (at + 0 + count * item_bytes d) at (at + length (bytes_in (content.Data d count) 0)) (omega arith) (omega (arith, data_length d count 0))
+    (every count (item_bytes d) r) (every_within count (item_bytes d) r step)
 contents_within (content.Operand kind o) section at f k t h e w =
     let r : Reloc = record { section = section; offset = at + specifiers o; kind = k; target = t } in
     All-cons (Within section at (at + length (operand_bytes kind o 0))) r [] (refl, omega arith, omega (arith, w, operand_fits kind o f 0 h.0 h.1 e)) (All-nil (Within section at (at + length (operand_bytes kind o 0))))

@@ -1,8 +1,8 @@
 -- Names, sections, entries and the end.
 use Rattle.std.proofs.Common.{◌≡◌, ℕ, Bool, true, false, List, [], ◌∷◌, Option, Some, None, Result, Ok, Err, refl, sym, ap, subst, ◌∙◌}
-use Rattle.std.specs.Prelude.{◌&&◌, not, if◌then◌else◌}
+use Rattle.std.specs.Prelude.{◌&&◌, ◌++◌, length, nat_lt, not, if◌then◌else◌}
 use Rattle.vax_dialect.specs.Differences.{assigns_places, has_unnamed_psect}
-use Rattle.vax_asm_sections.specs.Layout.{Sections, selected}
+use Rattle.vax_asm_sections.specs.Layout.{Sections, current_of, selected}
 use Rattle.vax_asm_sections.specs.declared.types.Attributes.{Attributes}
 use Rattle.vax_asm_sections.specs.declared.types.Refusal.{Refusal}
 use Rattle.vax_lex.specs.Grammar.{symbols_of}
@@ -10,15 +10,18 @@ use Rattle.vax_lex.specs.declared.token.Token.{Token}
 use Rattle.vax_macro.specs.declared.error.FaultKind.{FaultKind}
 use Rattle.vax_macro.specs.declared.error.FaultKind.TheVariants as fault
 use Rattle.vax_asm_names.specs.declared.types.Duplicate.{Duplicate}
+use Rattle.vax_asm_labels.specs.Contexts.{block_restored, block_wanted, restored_by, restored_stated, saved_by, saved_stated}
+use Rattle.vax_asm_labels.specs.Defaults.{default_at, default_stated, displaced_by}
+use Rattle.vax_isa.specs.declared.actions.Narrow.{Narrow}
 use Rattle.vax_asm_labels.specs.Functions.{all_switched, function_at, functions_stated, switched, then_switched}
 use Rattle.vax_asm_labels.specs.declared.switches.Function.{Function}
-use Rattle.vax_asm_labels.specs.declared.switches.Function.TheVariants.{Idle, Always, Never, LongBlocks}
+use Rattle.vax_asm_labels.specs.declared.switches.Function.TheVariants.{Idle, Always, Absolute, LongBlocks}
 use Rattle.vax_asm_labels.specs.Naming.{next_block, moved_to, place_assigned, target, unnamed_chosen, without_waiting, assigned_by, assignment_stated, attributes_from, begins, begins_at, chosen, defined, end_by, end_stated, entry_named, entry_stated, fault_of, is_place, label_stated, local_stated, name_assigned, name_in, name_of, named, names_from, names_stated, not_assigned, nothing_said, section_by, section_chosen, section_stated, shared, symbol_stated, two_alone}
 use Rattle.vax_asm_first.specs.Fixups.{Fixup}
 use Rattle.vax_asm_first.specs.Progress.{Progress, Site, after_change, joined, site_of}
-use Rattle.vax_asm_first.specs.Standing.{Standing, Told, here_in, told, with_scope}
+use Rattle.vax_asm_first.specs.Standing.{Saved, Standing, Told, block_of, here_in, last_of, told, with_scope, without_last}
 use Rattle.vax_asm_first.specs.declared.types.Origin.{Origin}
-use Rattle.vax_asm_scope.specs.Scope.{Scope, assigned, entry, is_local, labelled, labelled_locally}
+use Rattle.vax_asm_scope.specs.Scope.{Scope, assigned, entry, in_block, is_local, labelled, labelled_locally}
 use Rattle.vax_asm_statement.specs.Items.{whole}
 use Rattle.vax_asm_statement.specs.Parts.{parts}
 use Rattle.vax_asm_statement.specs.declared.reading.Label.{Label}
@@ -101,7 +104,7 @@ assignment_goes origin line name global tokens s t c e =
 
 chosen_goes : (s t : Standing) (r : Result (Sections Fixup) Refusal) → ((u : Sections Fixup) → r ≡ Ok u → Step s.sections u) → chosen s r ≡ Ok t → Goes s t
 chosen_goes s t (Ok u) h e =
-    let made : record { dialect = s.dialect; scope = next_block s.keeps_block s.scope; keeps_block = s.keeps_block; sections = u; transfer = s.transfer } ≡ t = cc in
+    let made : record { dialect = s.dialect; scope = next_block s.keeps_block s.scope; keeps_block = s.keeps_block; absolute = s.absolute; displacement = s.displacement; sections = u; saved = s.saved; transfer = s.transfer } ≡ t = cc in
     subst (λ (x : Standing). Goes s x) made (h u refl)
 chosen_goes s t (Err refusal) h e = cc
 
@@ -122,6 +125,46 @@ sections_by line (name ∷ attributes) s t c e = section_goes_by (name_of line n
 pub section_goes : (line : List ℕ) (tokens : List Token) (s t : Standing) → IsCounted s → section_stated line tokens s ≡ Ok t → Goes s t
 unfolding section_stated
 section_goes line tokens s t c e = sections_by line (parts tokens) s t c e
+
+-- ---- defaults
+
+displaced_goes : (size : Option Narrow) (s t : Standing) → IsCounted s → displaced_by size s ≡ Ok t → Goes s t
+displaced_goes (Some size) s t c e = same_goes s t (record s { displacement = size }) c refl e
+displaced_goes None s t c e = cc
+
+-- ---- sections that are put aside
+
+aside_goes : (b : Bool) (s t u : Standing) → IsCounted s → u.sections ≡ s.sections → (let r : Result Standing FaultKind = if b then Ok u else Err fault.Depth in r) ≡ Ok t → Goes s t
+aside_goes true s t u c same e = same_goes s t u c same e
+aside_goes false s t u c same e = cc
+
+saved_goes_by : (wanted : Result Bool FaultKind) (s t : Standing) → IsCounted s → saved_by wanted s ≡ Ok t → Goes s t
+saved_goes_by (Ok with_block) s t c e =
+    let context : Saved = record { section = (current_of s.sections).name; block = block_of with_block s } in
+    aside_goes (nat_lt (length s.saved) 31) s t (record s { saved = s.saved ++ context ∷ [] }) c refl e
+saved_goes_by (Err kind) s t c e = cc
+
+pub saved_goes : (line : List ℕ) (tokens : List Token) (s t : Standing) → IsCounted s → saved_stated line tokens s ≡ Ok t → Goes s t
+unfolding saved_stated
+saved_goes line tokens s t c e = saved_goes_by (block_wanted line (parts tokens)) s t c e
+
+block_goes : (block : Option ℕ) (s t : Standing) (r : Result Standing FaultKind) → ((u : Standing) → r ≡ Ok u → Goes s u) → block_restored block r ≡ Ok t → Goes s t
+block_goes (Some i) s t (Ok u) h e =
+    let first : Goes s u = h u refl in
+    step_then s.sections u.sections t.sections first (same_goes u t (with_scope (in_block i u.scope) u) first.counted refl e)
+block_goes None s t (Ok u) h e = h t e
+block_goes (Some i) s t (Err kind) h e = cc
+block_goes None s t (Err kind) h e = cc
+
+restored_goes_by : (saved : Option Saved) (s t : Standing) → IsCounted s → restored_by saved s ≡ Ok t → Goes s t
+restored_goes_by (Some saved) s t c e =
+    block_goes saved.block s t (section_chosen (Some saved.section) (Some nothing_said) s) (λ u made. section_goes_by (Some saved.section) (Some nothing_said) s u c made) e
+restored_goes_by None s t c e = cc
+
+pub restored_goes : (tokens : List Token) (s t : Standing) → IsCounted s → restored_stated tokens s ≡ Ok t → Goes s t
+unfolding restored_stated
+restored_goes [] s t c e = restored_goes_by (last_of s.saved) (without_last s) t c e
+restored_goes (x ∷ tokens) s t c e = cc
 
 -- ---- entries, names, the end
 
@@ -159,8 +202,7 @@ switched_goes on None s t c e = cc
 switched_goes on (Some Idle) s t c e = same_goes s t s c refl e
 switched_goes true (Some Always) s t c e = same_goes s t s c refl e
 switched_goes false (Some Always) s t c e = cc
-switched_goes true (Some Never) s t c e = cc
-switched_goes false (Some Never) s t c e = same_goes s t s c refl e
+switched_goes on (Some Absolute) s t c e = same_goes s t (record s { absolute = on }) c refl e
 switched_goes on (Some LongBlocks) s t c e = same_goes s t (record s { scope = next_block (not on) s.scope; keeps_block = on }) c refl e
 
 then_goes : (on : Bool) (f : Option Function) (s t : Standing) (r : Result Standing FaultKind) → ((u : Standing) → r ≡ Ok u → Goes s u) → then_switched on f r ≡ Ok t → Goes s t
@@ -177,6 +219,11 @@ unfolding functions_stated
 functions_go on line tokens s t c e =
     unless_none_goes tokens (all_switched on line (parts tokens) (Ok s)) s t
     (all_switched_go on line (parts tokens) s t (Ok s) (λ u made. same_goes s u s c refl made)) e
+
+pub default_goes : (line : List ℕ) (tokens : List Token) (s t : Standing) → IsCounted s → default_stated line tokens s ≡ Ok t → Goes s t
+unfolding default_stated
+default_goes line tokens s t c e =
+    two_goes (parts tokens) (λ name size. displaced_by (default_at line name size) s) s t (λ name size made. displaced_goes (default_at line name size) s t c made) e
 
 begins_goes : (name : Option (List ℕ)) (s t : Standing) → IsCounted s → begins_at name s ≡ Ok t → Goes s t
 begins_goes (Some name) s t c e = subst (λ (x : Sections Fixup). Step s.sections x) (ap (λ (r : Result Standing FaultKind). sections_in r s) e) (step_same s.sections c)

@@ -8,7 +8,7 @@ use Rattle.vax_asm_encode.specs.declared.operand.Operand.{Operand}
 use Rattle.vax_asm_encode.specs.declared.operand.Operand.TheVariants as operand
 use Rattle.vax_asm_instruction.proofs.Back.{operand_is_long}
 use Rattle.vax_asm_instruction.proofs.Referring.{read_kind}
-use Rattle.vax_asm_instruction.specs.Placing.{if_stands, operand_as, operand_at, operand_length, specifier_length}
+use Rattle.vax_asm_instruction.specs.Placing.{by_default, if_stands, operand_as, operand_at, operand_length, specifier_length}
 use Rattle.vax_asm_instruction.specs.Stating.{Prepared, Reached, behind, fault_at, fixed, fixup_at, if_counted, instruction_stated, opcode_stated, operand_stated, operands_stated, placed, prepared, read_of, reference_by, reference_stated, site_for}
 use Rattle.vax_isa.specs.Rows.{IsFormed, IsKind, Plain}
 use Rattle.vax_isa.specs.declared.OperandKind.{OperandKind}
@@ -97,8 +97,8 @@ placed_fine site kind p at s None k may c e h = cc
 
 one_fine : (site : Site) (kind : OperandKind) (tokens : List Token) (at : ℕ) (s : Standing) → IsKind kind → IsCounted s → at ≡ (current_of s.sections).size → (operand_stated site kind tokens at s).progress.fault ≡ None → Fine s (operand_stated site kind tokens at s)
 one_fine site kind tokens at s k c e h =
-    let p : Prepared = prepared s.dialect (site_for s at site) (operand_as kind site.line tokens) s.scope in
-    let fine = placed_fine site kind p at (with_scope p.scope s) (operand_at kind p.addressed s.sections.current at) k (at_stands kind p.addressed s.sections.current at) c e h in
+    let p : Prepared = prepared s.dialect (site_for s at site) (operand_as s.absolute kind site.line tokens) s.scope in
+    let fine = placed_fine site kind p at (with_scope p.scope s) (operand_at kind (by_default s.displacement s.sections.current p.addressed) s.sections.current at) k (at_stands kind (by_default s.displacement s.sections.current p.addressed) s.sections.current at) c e h in
     record { goes = fine.goes; at = fine.at }
 
 lowest_none : (a b : Option FaultKind) → lowest a b ≡ None → (a ≡ None) × (b ≡ None)

@@ -3,7 +3,7 @@ use Rattle.std.proofs.Common.{◌≡◌, ℕ, Bool, true, false, List, Option, S
 use Rattle.std.specs.List.{list_any}
 use Rattle.std.specs.Prelude.{IfSome, map, if◌then◌else◌}
 use Rattle.vax_asm.specs.Placing.{Placed, Stands, FaultyLabel, Faulty, also, behind_label, beside, body_stated, directed, directive_named, if_wide, in_ascii, instructed, instruction_named, is_bad, is_listing, is_wide, operated_by, placed, placed_by, stated, stated_by, token_of, with_range}
-use Rattle.vax_asm_data.specs.Data.{Plain, Counted_first, Zero_last}
+use Rattle.vax_asm_data.specs.Data.{Plain, Counted_first, Zero_last, Described}
 use Rattle.vax_isa.specs.Instructions.{Instruction}
 use Rattle.vax_isa.proofs.Laws.{formed_with_name}
 use Rattle.vax_isa.specs.Rows.{IsFormed, row_of, with_name}
@@ -22,7 +22,7 @@ use Rattle.vax_asm_statement.specs.declared.directives.Directive.TheVariants as 
 use Rattle.vax_asm_statement.specs.declared.reading.Label.{Label}
 use Rattle.vax_asm_laws.proofs.Counting.{step_then}
 use Rattle.vax_asm_laws.proofs.Data.{Goes, IsCounted, addresses_go, align_goes, data_goes, even_goes, odd_goes, space_goes, text_goes}
-use Rattle.vax_asm_laws.proofs.Naming.{assignment_goes, end_goes, entry_goes, functions_go, label_goes, names_go, same_goes, section_goes}
+use Rattle.vax_asm_laws.proofs.Naming.{assignment_goes, default_goes, end_goes, entry_goes, functions_go, label_goes, names_go, restored_goes, same_goes, saved_goes, section_goes}
 use Rattle.vax_asm_laws.proofs.Operands.{instruction_goes, reference_goes}
 
 directed_goes : (d : Directive) (origin : Origin) (line : List ℕ) (tokens : List Token) (s t : Standing) → IsCounted s → directed d origin line tokens s ≡ Ok t → Goes s t
@@ -33,7 +33,8 @@ directed_goes directive.Address origin line tokens s t c e = addresses_go origin
 directed_goes directive.Text origin line tokens s t c e = text_goes Plain origin line tokens s t c e
 directed_goes directive.CountedText origin line tokens s t c e = text_goes Counted_first origin line tokens s t c e
 directed_goes directive.ZeroText origin line tokens s t c e = text_goes Zero_last origin line tokens s t c e
-directed_goes (directive.Space size) origin line tokens s t c e = space_goes size origin line tokens s t c e
+directed_goes directive.DescribedText origin line tokens s t c e = text_goes Described origin line tokens s t c e
+directed_goes (directive.Space kind) origin line tokens s t c e = space_goes kind origin line tokens s t c e
 directed_goes (directive.Reference size) origin line tokens s t c e = reference_goes size origin line tokens s t c e
 directed_goes directive.Align origin line tokens s t c e = align_goes origin line tokens s t c e
 directed_goes directive.Even origin line tokens s t c e = even_goes tokens s t c e
@@ -42,6 +43,9 @@ directed_goes directive.Global origin line tokens s t c e = names_go true line t
 directed_goes directive.External origin line tokens s t c e = names_go false line tokens s t c e
 directed_goes directive.Enable origin line tokens s t c e = functions_go true line tokens s t c e
 directed_goes directive.Disable origin line tokens s t c e = functions_go false line tokens s t c e
+directed_goes directive.Default origin line tokens s t c e = default_goes line tokens s t c e
+directed_goes directive.Save origin line tokens s t c e = saved_goes line tokens s t c e
+directed_goes directive.Restore origin line tokens s t c e = restored_goes tokens s t c e
 directed_goes directive.Listing origin line tokens s t c e = same_goes s t s c refl e
 directed_goes directive.End origin line tokens s t c e = end_goes line tokens s t c e
 
@@ -116,6 +120,6 @@ listing_is false bad wide p t waiting e = wide_is wide p t waiting (bad_is bad (
 pub statement_goes : (origin : Origin) (line : List ℕ) (s t : Standing) (waiting : Option Waiting) → IsCounted s → placed origin line s ≡ Stands t waiting → Goes s t
 unfolding placed
 statement_goes origin line s t waiting c e =
-    let pieces : List Piece = pieces_of line in
+    let pieces : List Piece = pieces_of s.dialect line in
     let p : Parsed = parsed (map token_of pieces) in
     stated_goes origin line p s t waiting c (listing_is (is_listing s.dialect line p.what) (list_any is_bad pieces) (list_any is_wide pieces) (stated origin line p s) t waiting e)

@@ -1,16 +1,24 @@
 -- How the table of names changes.
-use Rattle.std.proofs.Common.{◌≡◌, ℕ, ◌<◌, ◌+◌, List, [], ◌∷◌, ◌++◌, length, map, slice_index_or, slice_set, Bool, true, false, cond, Option, Some, None, Result, Ok, Err, sym, ap, subst, ◌∙◌, arith}
+use Rattle.std.proofs.Common.{add-one, ◌≡◌, ℕ, ◌<◌, ◌+◌, List, [], ◌∷◌, ◌++◌, length, map, slice_index_or, slice_set, Bool, true, false, cond, Option, Some, None, Result, Ok, Err, Vec, sym, ap, subst, ◌∙◌, arith}
 use Rattle.std.proofs.lemmas.List.{map-set, get_or-map, map-append, length-map, length-append}
 use Rattle.std.proofs.Math.Seq.{map-set_same}
 use Rattle.std.specs.Option.{ForSome}
 use Rattle.std.specs.Result.{OnOk, OnErr}
 use Rattle.std.specs.Str.{bytes_eq}
 use Rattle.vax_space.specs.declared.NoMemory.{NoMemory}
-use Rattle.vax_asm_names.specs.ByName.{with_entry}
+use Rattle.std.specs.BTreeMap.{BTreeMap}
+use Rattle.std.specs.Global.{Global}
+use Rattle.vax_asm_names.proofs.Maps.{nothing_named}
+use Rattle.vax_asm_names.specs.ByName.{by_name, with_entry}
 use Rattle.vax_asm_names.specs.Names as specs
+use Rattle.vax_asm_names.specs.Names.{no_locals}
 use Rattle.vax_asm_names.specs.View.{name_of, Becomes, Leaves}
 use Rattle.vax_asm_names.specs.declared.types.Duplicate.{Duplicate}
+use Rattle.vax_asm_names.specs.declared.types.Local.{Local}
 use Rattle.vax_asm_names.specs.declared.types.Name.{Name}
+
+abbrev Block : Type 0
+Block = BTreeMap (Vec ℕ Global) Local
 
 pub name_added : (xs : List Name) (n : Name) → map name_of (xs ++ n ∷ []) ≡ map name_of xs ++ name_of n ∷ []
 name_added xs n = map-append name_of xs (n ∷ [])
@@ -68,3 +76,25 @@ pub one_is_global : (s : specs.Names) (xs : List Name) (i : ℕ) (x b : Name) �
 one_is_global s xs i x b h is e =
     ap (λ (l : List specs.Name). record s { all = l })
     (map-set name_of xs i b ∙ ap (slice_set (map name_of xs) i) (e ∙ ap specs.made_global (ap name_of is ∙ sym (name_seen xs i x h))))
+
+-- one more block of local labels
+pub block_added : (xs : List Block) (b : Block) → b.entries ≡ [] → map by_name (xs ++ b ∷ []) ≡ map by_name xs ++ no_locals ∷ []
+block_added xs b e = map-append by_name xs (b ∷ []) ∙ ap (λ (l : List ℕ → Option Local). map by_name xs ++ l ∷ []) (nothing_named b e)
+
+-- the labels of a further block are seen, and become others
+further_seen : (xs : List Block) (i : ℕ) (d : Block) → i < length xs → slice_index_or (map by_name xs) i no_locals ≡ by_name (slice_index_or xs i d)
+further_seen xs i d h = get_or-map by_name xs i d no_locals h
+
+pub block_seen : (f : Block) (xs : List Block) (block i : ℕ) (d : Block) → i < length xs → block ≡ i + 1 → slice_index_or (by_name f ∷ map by_name xs) block no_locals ≡ by_name (slice_index_or xs i d)
+block_seen f xs block i d h e = ap (λ (k : ℕ). slice_index_or (by_name f ∷ map by_name xs) k no_locals) (e ∙ add-one i) ∙ further_seen xs i d h
+
+further_put : (xs : List Block) (i : ℕ) (text : List ℕ) (l : Local) (d b : Block) → i < length xs → by_name b ≡ with_entry text (Some l) (by_name (slice_index_or xs i d))
+    → map by_name (slice_set xs i b) ≡ slice_set (map by_name xs) i (with_entry text (Some l) (slice_index_or (map by_name xs) i no_locals))
+further_put xs i text l d b h e =
+    map-set by_name xs i b ∙ ap (slice_set (map by_name xs) i) (e ∙ ap (with_entry text (Some l)) (sym (further_seen xs i d h)))
+
+pub label_put : (f : Block) (xs : List Block) (block i : ℕ) (text : List ℕ) (l : Local) (x b : Block) → i < length xs → block ≡ i + 1 → x ≡ slice_index_or xs i x → by_name b ≡ with_entry text (Some l) (by_name x)
+    → by_name f ∷ map by_name (slice_set xs i b) ≡ slice_set (by_name f ∷ map by_name xs) block (with_entry text (Some l) (slice_index_or (by_name f ∷ map by_name xs) block no_locals))
+label_put f xs block i text l x b h is old e =
+    ap (λ (t : List (List ℕ → Option Local)). by_name f ∷ t) (further_put xs i text l x b h (e ∙ ap (λ (m : Block). with_entry text (Some l) (by_name m)) old))
+    ∙ ap (λ (k : ℕ). slice_set (by_name f ∷ map by_name xs) k (with_entry text (Some l) (slice_index_or (by_name f ∷ map by_name xs) k no_locals))) (sym (is ∙ add-one i))

@@ -1,6 +1,6 @@
 -- Names and what uses of them mean (VAX MACRO and Instruction Set Reference Manual, "Symbols", "Direct assignment
 -- statement" and "Local labels").
-use Rattle.std.specs.Prelude.{ℕ, Bool, true, false, List, [], ◌∷◌, ◌++◌, length, slice_index_or, slice_set, if◌then◌else◌, Option, Some, None, Result, Ok, Err}
+use Rattle.std.specs.Prelude.{ℕ, Bool, true, false, List, [], ◌∷◌, ◌++◌, length, nat_lt, slice_index_or, slice_set, if◌then◌else◌, Option, Some, None, Result, Ok, Err}
 use Rattle.vax_asm_names.specs.ByName.{with_entry}
 use Rattle.vax_asm_names.specs.declared.types.DefinedBy.{DefinedBy}
 use Rattle.vax_asm_names.specs.declared.types.DefinedBy.TheVariants.{Nothing, Label, Assignment}
@@ -15,14 +15,24 @@ pub record Name : Type 0 where
   pub defined_by : DefinedBy
   pub global : Bool
 
--- the number of each name; the names in the order in which they first appeared; the local labels of the block
+-- the local labels of a block that has none yet
+abbrev pub no_locals : List ℕ → Option Local
+no_locals text = None
+
+-- The number of each name; the names in the order in which they first appeared; the blocks of local labels so far, each with its local
+-- labels; and which of them is the current one.
 pub record Names : Type 0 where
   pub numbers : List ℕ → Option ℕ
   pub all : List Name
-  pub locals : List ℕ → Option Local
+  pub blocks : List (List ℕ → Option Local)
+  pub block : ℕ
 
 abbrev pub no_names : Names
-no_names = record { numbers = λ text. None; all = []; locals = λ text. None }
+no_names = record { numbers = λ text. None; all = []; blocks = no_locals ∷ []; block = 0 }
+
+-- the local labels of the current block
+abbrev pub locals_of : Names → List ℕ → Option Local
+locals_of n = slice_index_or n.blocks n.block no_locals
 
 -- A name appears for the first time. Its first definition, which is to come, has this number.
 abbrev pub first_seen : List ℕ → ℕ → Name
@@ -65,7 +75,7 @@ changed i n (Err e) = Err e
 
 -- A local label appears in its block for the first time.
 abbrev pub with_local : List ℕ → Local → Names → Names
-with_local text l n = record n { locals = with_entry text (Some l) n.locals }
+with_local text l n = record n { blocks = slice_set n.blocks n.block (with_entry text (Some l) (locals_of n)) }
 
 -- what a local label is once it is used, and once it is defined
 abbrev pub used_locally : ℕ → Option Local → Local
@@ -81,5 +91,9 @@ labelled_locally fresh None = Ok (record { definition = fresh; defined = true })
 labelled_locally fresh (Some l) = if l.defined then Err (record {}) else Ok (record l { defined = true })
 
 -- a block of local labels begins
-abbrev pub without_locals : Names → Names
-without_locals n = record n { locals = λ text. None }
+abbrev pub in_next_block : Names → Names
+in_next_block n = record n { blocks = n.blocks ++ no_locals ∷ []; block = length n.blocks }
+
+-- a block that began before goes on
+abbrev pub in_block : ℕ → Names → Names
+in_block i n = if nat_lt i (length n.blocks) then record n { block = i } else n

@@ -1,5 +1,5 @@
 -- What the table means.
-use Rattle.std.specs.Prelude.{◌≡◌, ℕ, List, map, Result, Ok, Err}
+use Rattle.std.specs.Prelude.{◌≡◌, ◌∷◌, ℕ, List, map, Result, Ok, Err}
 use Rattle.vax_asm_names.specs.ByName.{by_name}
 use Rattle.vax_asm_names.specs.Names as specs
 use Rattle.vax_asm_names.specs.declared.types.Duplicate.{Duplicate}
@@ -13,7 +13,7 @@ abbrev pub name_of : Name → specs.Name
 name_of n = record { text = n.text.items; definition = n.definition; defined_by = n.defined_by; global = n.global }
 
 abbrev pub names_of : NameTable → specs.Names
-names_of t = record { numbers = by_name t.numbers; all = map name_of t.names.items; locals = by_name t.locals }
+names_of t = record { numbers = by_name t.numbers; all = map name_of t.names.items; blocks = by_name t.first_block ∷ map by_name t.further_blocks.items; block = t.block }
 
 -- a name becomes another, or is as before
 abbrev pub Becomes : Result Unit Duplicate → specs.Name → specs.Name → Result specs.Name Duplicate → Type 0

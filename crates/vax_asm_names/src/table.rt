@@ -2,7 +2,7 @@
 
 ghost use Rattle.std.specs.Prelude.{◌≡◌, ◌<◌, ◌+◌, ◌++◌, ◌∷◌, [], Some, IfOk, OnOk, OnErr, IfSome, length, map};
 ghost use Rattle.vax_asm_names.specs.ByName.{by_name, with_entry};
-ghost use Rattle.vax_asm_names.specs.Names.{no_names, with_name, labelled, assigned, made_global, name_at, with_change, changed, used_locally, labelled_locally, with_local, without_locals};
+ghost use Rattle.vax_asm_names.specs.Names.{no_locals, no_names, with_name, labelled, assigned, made_global, name_at, with_change, changed, used_locally, labelled_locally, locals_of, with_local, in_next_block, in_block};
 ghost use Rattle.vax_asm_names.specs.View.{name_of, names_of, Alters, Becomes, Labels};
 ghost use Rattle.vax_asm_names.specs.Names.{with_use};
 
@@ -42,6 +42,17 @@ fn add_last(names: &mut Vec<Name>, name: Name) -> Result<(), NoMemory>
     ensures kept { OnErr result (names.new.items ≡ names.old.items) }
 {
     names.push(name).map_err(|_| NoMemory)
+}
+
+/// Adds a block without local labels behind the others.
+#[tactic(auto, using(crate::proofs::Changing::block_added))]
+fn add_block(alloc: Global, blocks: &mut Vec<BTreeMap<Vec<u8>, Local>>) -> Result<(), NoMemory>
+    ensures blocks { OnOk result (map by_name blocks.new.items
+        ≡ map by_name blocks.old.items ++ no_locals ∷ []) }
+    ensures longer { OnOk result (length blocks.new.items ≡ length blocks.old.items + 1) }
+    ensures kept { OnErr result (blocks.new.items ≡ blocks.old.items) }
+{
+    blocks.push(BTreeMap::new(alloc)).map_err(|_| NoMemory)
 }
 
 /// What a local label is once it is defined.
@@ -108,7 +119,9 @@ impl NameTable {
         NameTable {
             numbers: BTreeMap::new(alloc),
             names: Vec::new(alloc),
-            locals: BTreeMap::new(alloc),
+            first_block: BTreeMap::new(alloc),
+            further_blocks: Vec::new(alloc),
+            block: 0,
         }
     }
 
@@ -183,28 +196,49 @@ impl NameTable {
         self.names[number].make_global();
     }
 
+    /// The local labels of the current block.
+    #[tactic(auto, using(crate::proofs::Changing::block_seen))]
+    fn labels(&self) -> &BTreeMap<Vec<u8>, Local>
+        ensures { by_name result.now ≡ locals_of (names_of self.now) }
+    {
+        match self.block.checked_sub(1) {
+            None => &self.first_block,
+            Some(further) => &self.further_blocks[further],
+        }
+    }
+
     /// A local label of the block.
     pub fn local(&self, text: &[u8]) -> Option<Local>
-        ensures { result ≡ (names_of self.now).locals text.now }
+        ensures { result ≡ locals_of (names_of self.now) text.now }
     {
-        match self.locals.get(text) {
+        match self.labels().get(text) {
             Some(local) => Some(*local),
             None => None,
         }
     }
 
+    #[tactic(auto, using(crate::proofs::Changing::label_put))]
     fn put_local(&mut self, alloc: Global, text: &[u8], local: Local) -> Result<(), NoMemory>
         ensures { OnOk result (names_of self.new ≡ with_local text.now local (names_of self.old)) }
     {
-        put(alloc, &mut self.locals, text, local)
+        match self.block.checked_sub(1) {
+            None => {
+                put(alloc, &mut self.first_block, text, local)?;
+                Ok(())
+            }
+            Some(further) => {
+                put(alloc, &mut self.further_blocks[further], text, local)?;
+                Ok(())
+            }
+        }
     }
 
     /// A local label is used. Where it appears for the first time in its block, its definition, which is to come, gets this number.
     pub fn use_local(&mut self, alloc: Global, text: &[u8], fresh: usize) -> Result<Local, NoMemory>
         ensures local { IfOk result (λ l. l
-            ≡ used_locally fresh ((names_of self.old).locals text.now)) }
+            ≡ used_locally fresh (locals_of (names_of self.old) text.now)) }
         ensures names { IfOk result (λ l. names_of self.new
-            ≡ with_use text.now l ((names_of self.old).locals text.now) (names_of self.old)) }
+            ≡ with_use text.now l (locals_of (names_of self.old) text.now) (names_of self.old)) }
     {
         if let Some(local) = self.local(text) {
             return Ok(local);
@@ -228,7 +262,7 @@ impl NameTable {
         fresh: usize,
     ) -> Result<Local, LabelError>
         ensures { Labels result text.now (names_of self.old)
-            (names_of self.new) (labelled_locally fresh ((names_of self.old).locals text.now)) }
+            (names_of self.new) (labelled_locally fresh (locals_of (names_of self.old) text.now)) }
     {
         let Ok(local) = labelled(self.local(text), fresh) else {
             return Err(LabelError::Duplicate);
@@ -239,11 +273,28 @@ impl NameTable {
         }
     }
 
-    /// A block of local labels begins.
-    #[tactic(auto, using(crate::proofs::Maps::nothing_named))]
-    pub fn begin_block(&mut self, alloc: Global)
-        ensures { names_of self.new ≡ without_locals (names_of self.old) }
+    /// The number of the current block of local labels.
+    pub fn block(&self) -> usize
+        ensures { result ≡ (names_of self.now).block }
     {
-        self.locals = BTreeMap::new(alloc);
+        self.block
+    }
+
+    /// A block of local labels begins.
+    pub fn begin_block(&mut self, alloc: Global) -> Result<(), NoMemory>
+        ensures { OnOk result (names_of self.new ≡ in_next_block (names_of self.old)) }
+    {
+        add_block(alloc, &mut self.further_blocks)?;
+        self.block = self.further_blocks.len();
+        Ok(())
+    }
+
+    /// The block of local labels with this number goes on, if there is one.
+    pub fn go_back(&mut self, block: usize)
+        ensures { names_of self.new ≡ in_block block (names_of self.old) }
+    {
+        if block <= self.further_blocks.len() {
+            self.block = block;
+        }
     }
 }

@@ -1,6 +1,6 @@
 // What the table of names is built of.
 
-ghost use Rattle.std.specs.Prelude.{◌<◌, ℕ, List, length};
+ghost use Rattle.std.specs.Prelude.{◌<◌, ◌≤◌, ℕ, List, length};
 ghost use Rattle.std.specs.Option.{ForSome};
 ghost use Rattle.vax_asm_names.specs.ByName.{by_name};
 
@@ -49,11 +49,16 @@ pub enum LabelError {
     NoMemory,
 }
 
-/// The names of a module so far, in the order in which they first appeared, and the local labels of the block.
+/// The names of a module so far, in the order in which they first appeared, and the local labels of each block.
 #[derive(Drop)]
 pub struct NameTable {
     pub(crate) numbers: BTreeMap<Vec<u8>, usize>,
     pub(crate) names: Vec<Name>,
-    pub(crate) locals: BTreeMap<Vec<u8>, Local>,
+    /// The local labels of the first block, and of those behind it.
+    pub(crate) first_block: BTreeMap<Vec<u8>, Local>,
+    pub(crate) further_blocks: Vec<BTreeMap<Vec<u8>, Local>>,
+    /// The number of the current block, from 0.
+    pub(crate) block: usize,
     pub ghost in_range: { (text : List ℕ) → ForSome (by_name numbers text) (λ i. i < length names.items) },
+    pub ghost in_block: { block ≤ length further_blocks.items },
 }

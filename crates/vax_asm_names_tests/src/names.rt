@@ -51,8 +51,17 @@ fn keeps_local_labels_in_their_block(rt: HostRuntime) -> Result<(), Fail> {
     assert!(rt; table.label_local(alloc, b"10$", 4) == Err(LabelError::Duplicate));
     assert!(rt; table.label_local(alloc, b"20$", 5)?.definition == 5);
     assert!(rt; table.local(b"20$").is_some());
-    table.begin_block(alloc);
+    table.begin_block(alloc)?;
     assert!(rt; table.local(b"10$") == None);
     assert!(rt; table.label_local(alloc, b"10$", 6)?.definition == 6);
+    // The first block goes on, and what it gets stays in it.
+    assert!(rt; table.block() == 1);
+    table.go_back(0);
+    assert!(rt; table.block() == 0);
+    assert!(rt; table.use_local(alloc, b"10$", 7)?.definition == 3);
+    assert!(rt; table.label_local(alloc, b"30$", 7)?.definition == 7);
+    table.go_back(1);
+    assert!(rt; table.use_local(alloc, b"10$", 8)?.definition == 6);
+    assert!(rt; table.local(b"30$") == None);
     Ok(())
 }

@@ -95,7 +95,7 @@ fn local_labels_stay_in_their_block(rt: HostRuntime) -> Result<(), Fail> {
     let alloc = rt.alloc();
     let mut scope = Scope::new(alloc);
     let first = stands(alloc, &mut scope, b"10$")?;
-    scope.begin_block(alloc);
+    scope.begin_block(alloc)?;
     let second = stands(alloc, &mut scope, b"10$")?;
     scope.label_local(alloc, b"10$", HERE)?;
     assert!(rt; scope.evaluate(&first) == Err(ExprError::Unknown));

@@ -1,13 +1,15 @@
 -- What statements do leaves each name with a definition that there is.
 use Rattle.std.proofs.Common.{◌≡◌, ◌<◌, ◌≤◌, ◌+◌, ℕ, Bool, true, false, cond, List, [], ◌∷◌, ◌++◌, All, length, Option, Some, None, Result, Ok, Err, refl, sym, ap, ◌∙◌, subst, arith, ◌⊎◌, inl, inr}
-use Rattle.std.proofs.lemmas.List.{length-set, length_push, get_or-set_same}
+use Rattle.std.proofs.lemmas.List.{length-append, length-set, length_push, get_or-set_same}
 use Rattle.std.proofs.lemmas.Bool.{eq-eqb}
-use Rattle.std.proofs.lemmas.List.Elements.{All-push, All-set}
+use Rattle.std.proofs.lemmas.Bool.Decides.{nat_tests}
+use Rattle.std.proofs.lemmas.List.Elements.{All-append, All-cons, All-nil, All-push, All-set}
 use Rattle.std.specs.Prelude.{pos, slice_set, if◌then◌else◌, ◌&&◌, nat_lt, codes, ◌==◌}
 use Rattle.std.specs.Str.{bytes_eq}
 use Rattle.vax_lex.specs.Grammar.{Symbol}
 use Rattle.vax_lex.specs.declared.value.Value.{Value}
 use Rattle.vax_lex.specs.declared.value.Value.TheVariants.{External}
+use Rattle.vax_asm_names.specs.ByName.{with_entry}
 use Rattle.vax_asm_names.specs.Names as table
 use Rattle.vax_asm_names.specs.declared.types.DefinedBy.{DefinedBy}
 use Rattle.vax_asm_names.specs.declared.types.DefinedBy.TheVariants.{Nothing, Label, Assignment}
@@ -15,7 +17,7 @@ use Rattle.vax_asm_names.specs.declared.types.Duplicate.{Duplicate}
 use Rattle.vax_asm_names.specs.declared.types.Local.{Local}
 use Rattle.vax_asm_values.specs.Values.{Meaning, Written, Source, ToCome, Given, with_source, worth, value_of, is_to_come, source_at}
 use Rattle.vax_asm_scope.specs.Used.{at_term, used}
-use Rattle.vax_asm_scope.specs.Scope.{Scope, is_local, entry_by, entry, Meant, mean_here, mean_local, mean_name, mean, Bound, bind, bind_all, renamed, InRange, IsInRange, opened_if_fresh, assign_to, local_by, labelled, kept, assigned, labelled_locally, begun_block, made_global, nothing, bound, is_undefined, with_externals, closed}
+use Rattle.vax_asm_scope.specs.Scope.{Scope, is_local, entry_by, entry, Meant, mean_here, mean_local, mean_name, mean, Bound, bind, bind_all, renamed, InRange, AreIn, IsInRange, opened_if_fresh, assign_to, local_by, labelled, kept, assigned, labelled_locally, begun_block, in_block, made_global, nothing, bound, is_undefined, with_externals, closed}
 
 some_is : {X : Type 0} {x y : X} → Some x ≡ Some y → x ≡ y
 some_is {X} {x} e = ap (λ (o : Option X). elim o [ Some z ↦ z | None ↦ x ]) e
@@ -24,7 +26,8 @@ pub range_grows : (n : table.Names) (k m : ℕ) → InRange n k → k ≤ m → 
 range_grows n k m r le = record {
   numbers = r.numbers;
   all = λ i d h. omega (arith, r.all i d h, le);
-  locals = λ t l e. omega (arith, r.locals t l e, le);
+  block = r.block;
+  blocks = λ i d h. λ t l e. omega (arith, r.blocks i d h t l e, le);
 }
 
 kept_length : (b : Bool) (i : ℕ) (s : Source) (sources : List Source) → length (if b then slice_set sources i s else sources) ≡ length sources
@@ -44,8 +47,13 @@ name_in text n k r =
     record {
       numbers = λ t i e. entry_in (bytes_eq text t) (length n.all) (length (n.all ++ table.first_seen text k ∷ [])) i (n.numbers t) (omega (arith, longer)) (λ j f. omega (arith, longer, r.numbers t j f)) e;
       all = All-push (λ (m : table.Name). m.definition < k + 1) n.all (table.first_seen text k) (λ i d h. omega (arith, r.all i d h)) (omega arith);
-      locals = λ t l e. omega (arith, r.locals t l e);
+      block = r.block;
+      blocks = λ i d h. λ t l e. omega (arith, r.blocks i d h t l e);
     }
+
+-- the local labels of the current block
+current_in : (n : table.Names) (k : ℕ) → InRange n k → AreIn k (table.locals_of n)
+current_in n k r = r.blocks n.block table.no_locals r.block
 
 local_entry_in : (b : Bool) (l m : Local) (k : ℕ) (o : Option Local) → l.definition < k → ((q : Local) → o ≡ Some q → q.definition < k) → cond b (Some l) o ≡ Some m → m.definition < k
 local_entry_in true l m k o less h e = subst (λ (q : Local). q.definition < k) (some_is e) less
@@ -55,7 +63,9 @@ pub local_in : (text : List ℕ) (l : Local) (n : table.Names) (k : ℕ) → l.d
 local_in text l n k less r = record {
   numbers = r.numbers;
   all = r.all;
-  locals = λ t m e. local_entry_in (bytes_eq text t) l m k (n.locals t) less (r.locals t) e;
+  block = omega (arith, r.block, length-set n.blocks n.block (with_entry text (Some l) (table.locals_of n)));
+  blocks = All-set (AreIn k) n.blocks n.block (with_entry text (Some l) (table.locals_of n))
+      (λ t m e. local_entry_in (bytes_eq text t) l m k (table.locals_of n t) less (current_in n k r t) e) r.blocks;
 }
 
 pub entry_range : (text : List ℕ) (s : Scope) (o : Option ℕ) → s.names.numbers text ≡ o → IsInRange s → IsInRange (entry_by text s o).scope × ((entry_by text s o).number < length (entry_by text s o).scope.names.all)
@@ -77,8 +87,8 @@ mean_here_in here s r =
     let longer : length (with_source (length s.sources) (Given here) (s.sources ++ ToCome ∷ [])) ≡ length s.sources + 1 = length_with_source (length s.sources) (Given here) (s.sources ++ ToCome ∷ []) ∙ length_push s.sources ToCome in
     (range_grows s.names (length s.sources) (length (with_source (length s.sources) (Given here) (s.sources ++ ToCome ∷ []))) r (omega (arith, longer)), omega (arith, longer))
 
-mean_local_in : (text : List ℕ) (s : Scope) (o : Option Local) → s.names.locals text ≡ o → IsInRange s → MeansOne (mean_local text s o)
-mean_local_in text s (Some l) is r = (r, r.locals text l is)
+mean_local_in : (text : List ℕ) (s : Scope) (o : Option Local) → table.locals_of s.names text ≡ o → IsInRange s → MeansOne (mean_local text s o)
+mean_local_in text s (Some l) is r = (r, current_in s.names (length s.sources) r text l is)
 mean_local_in text s None is r =
     let longer : length (s.sources ++ ToCome ∷ []) ≡ length s.sources + 1 = length_push s.sources ToCome in
     let k = length (s.sources ++ ToCome ∷ []) in
@@ -96,8 +106,8 @@ one_of false m n here there = there
 
 pub mean_in : (here : Value) (text : List ℕ) (s : Scope) → IsInRange s → MeansOne (mean here text s)
 mean_in here text s r =
-    one_of (bytes_eq text (codes ".")) (mean_here here s) (if is_local text then mean_local text s (s.names.locals text) else mean_name (entry text s)) (mean_here_in here s r)
-    (one_of (is_local text) (mean_local text s (s.names.locals text)) (mean_name (entry text s)) (mean_local_in text s (s.names.locals text) refl r) (mean_name_in text s r))
+    one_of (bytes_eq text (codes ".")) (mean_here here s) (if is_local text then mean_local text s (table.locals_of s.names text) else mean_name (entry text s)) (mean_here_in here s r)
+    (one_of (is_local text) (mean_local text s (table.locals_of s.names text)) (mean_name (entry text s)) (mean_local_in text s (table.locals_of s.names text) refl r) (mean_name_in text s r))
 
 -- names that are bound
 abbrev pub BindsAll : Bound → Type 0
@@ -117,9 +127,9 @@ grows_of false k m n here there = there
 
 mean_grows : (here : Value) (text : List ℕ) (s : Scope) → length s.sources ≤ length (mean here text s).scope.sources
 mean_grows here text s =
-    grows_of (bytes_eq text (codes ".")) (length s.sources) (mean_here here s) (if is_local text then mean_local text s (s.names.locals text) else mean_name (entry text s))
+    grows_of (bytes_eq text (codes ".")) (length s.sources) (mean_here here s) (if is_local text then mean_local text s (table.locals_of s.names text) else mean_name (entry text s))
     (omega (arith, length_with_source (length s.sources) (Given here) (s.sources ++ ToCome ∷ []), length_push s.sources ToCome))
-    (grows_of (is_local text) (length s.sources) (mean_local text s (s.names.locals text)) (mean_name (entry text s)) (local_grows_by text s (s.names.locals text)) (mean_grows_by text s (s.names.numbers text)))
+    (grows_of (is_local text) (length s.sources) (mean_local text s (table.locals_of s.names text)) (mean_name (entry text s)) (local_grows_by text s (table.locals_of s.names text)) (mean_grows_by text s (s.names.numbers text)))
 
 bind_in : (here : Value) (text : List ℕ) (b : Bound) → BindsAll b → BindsAll (bind here text b)
 bind_in here text b h =
@@ -150,7 +160,8 @@ change_in : (n : table.Names) (i k : ℕ) (m : table.Name) → InRange n k → m
 change_in n i k m r h = record {
   numbers = λ t j e. omega (arith, r.numbers t j e, length-set n.all i m);
   all = All-set (λ (q : table.Name). q.definition < k) n.all i m h r.all;
-  locals = r.locals;
+  block = r.block;
+  blocks = r.blocks;
 }
 
 changed_in : (n : table.Names) (i k : ℕ) (r : Result table.Name Duplicate) (m : table.Names) → InRange n k → ((q : table.Name) → r ≡ Ok q → q.definition < k) → table.changed i n r ≡ Ok m → InRange m k
@@ -235,17 +246,29 @@ local_by_in text v s (Ok l) t r h e =
     (local_in text l s.names (length sources) (h l refl) (range_grows s.names (length s.sources) (length sources) r (length_opened (d == length s.sources) s.sources))))
 local_by_in text v s (Err d) t r h e = absurd cc
 
-local_within : (fresh : ℕ) (s : Scope) (text : List ℕ) (l : Local) → fresh ≡ length s.sources → IsInRange s → (l.definition ≡ fresh) ⊎ ((m : Local) × ((s.names.locals text ≡ Some m) × (l.definition ≡ m.definition))) → l.definition < length (opened_if_fresh l.definition s.sources)
+local_within : (fresh : ℕ) (s : Scope) (text : List ℕ) (l : Local) → fresh ≡ length s.sources → IsInRange s → (l.definition ≡ fresh) ⊎ ((m : Local) × ((table.locals_of s.names text ≡ Some m) × (l.definition ≡ m.definition))) → l.definition < length (opened_if_fresh l.definition s.sources)
 local_within fresh s text l is r (inl e) = omega (arith, e, is, fresh_opened l.definition s.sources (e ∙ is))
-local_within fresh s text l is r (inr m) = omega (arith, m.1.1, r.locals text m.0 m.1.0, length_opened (l.definition == length s.sources) s.sources)
+local_within fresh s text l is r (inr m) = omega (arith, m.1.1, current_in s.names (length s.sources) r text m.0 m.1.0, length_opened (l.definition == length s.sources) s.sources)
 
 pub local_label_in : (text : List ℕ) (v : Value) (s t : Scope) → IsInRange s → labelled_locally text v s ≡ Ok t → IsInRange t
 local_label_in text v s t r e =
-    local_by_in text v s (table.labelled_locally (length s.sources) (s.names.locals text)) t r
-    (λ l is. local_within (length s.sources) s text l refl r (local_keeps (length s.sources) (s.names.locals text) l is)) e
+    local_by_in text v s (table.labelled_locally (length s.sources) (table.locals_of s.names text)) t r
+    (λ l is. local_within (length s.sources) s text l refl r (local_keeps (length s.sources) (table.locals_of s.names text) l is)) e
 
 pub block_in : (s : Scope) → IsInRange s → IsInRange (begun_block s)
-block_in s r = record { numbers = r.numbers; all = r.all; locals = λ t l e. absurd cc }
+block_in s r = record {
+  numbers = r.numbers;
+  all = r.all;
+  block = omega (arith, length-append s.names.blocks (table.no_locals ∷ []));
+  blocks = All-append (AreIn (length s.sources)) s.names.blocks (table.no_locals ∷ []) r.blocks (All-cons (AreIn (length s.sources)) table.no_locals [] (λ t l e. absurd cc) (All-nil (AreIn (length s.sources))));
+}
+
+back_in_by : (b : Bool) (i : ℕ) (n : table.Names) (k : ℕ) → InRange n k → (b ≡ true → i < length n.blocks) → InRange (if b then record n { block = i } else n) k
+back_in_by true i n k r h = record { numbers = r.numbers; all = r.all; block = h refl; blocks = r.blocks }
+back_in_by false i n k r h = r
+
+pub back_in : (i : ℕ) (s : Scope) → IsInRange s → IsInRange (in_block i s)
+back_in i s r = back_in_by (nat_lt i (length s.names.blocks)) i s.names (length s.sources) r (λ e. grind (arith, nat_tests))
 
 pub global_in : (text : List ℕ) (s : Scope) → IsInRange s → IsInRange (made_global text s)
 global_in text s r =
@@ -254,7 +277,12 @@ global_in text s r =
     change_in f.scope.names f.number (length f.scope.sources) (table.made_global (table.name_at f.scope.names.all f.number)) both.0 (definition_in f.scope.names f.number (length f.scope.sources) both.0 both.1)
 
 pub nothing_in : IsInRange nothing
-nothing_in = record { numbers = λ t i e. absurd cc; all = λ i d h. absurd (omega (arith, h)); locals = λ t l e. absurd cc }
+nothing_in = record {
+  numbers = λ t i e. absurd cc;
+  all = λ i d h. absurd (omega (arith, h));
+  block = omega arith;
+  blocks = All-cons (AreIn 0) table.no_locals [] (λ t l e. absurd cc) (All-nil (AreIn 0));
+}
 
 -- each call leaves names in range
 pub entry_is_in : (text : List ℕ) (s t : Scope) → IsInRange s → t ≡ (entry text s).scope → IsInRange t
@@ -262,6 +290,9 @@ entry_is_in text s t r is = subst IsInRange (sym is) (entry_range text s (s.name
 
 pub block_is_in : (s t : Scope) → IsInRange s → t ≡ begun_block s → IsInRange t
 block_is_in s t r is = subst IsInRange (sym is) (block_in s r)
+
+pub back_is_in : (i : ℕ) (s t : Scope) → IsInRange s → t ≡ in_block i s → IsInRange t
+back_is_in i s t r is = subst IsInRange (sym is) (back_in i s r)
 
 pub global_is_in : (text : List ℕ) (s t : Scope) → IsInRange s → t ≡ made_global text s → IsInRange t
 global_is_in text s t r is = subst IsInRange (sym is) (global_in text s r)

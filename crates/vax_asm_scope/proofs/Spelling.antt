@@ -1,7 +1,7 @@
 -- The symbols of an expression use the names of its tree.
 use Rattle.std.proofs.Common.{◌≡◌, ℕ, List, [], ◌∷◌, ◌++◌, map, refl, ap, sym, ◌∙◌, append_assoc}
 use Rattle.std.proofs.lemmas.List.{append-nil, map-append}
-use Rattle.vax_lex.specs.Grammar.{Symbol, mark, Term, constant, named_by, quoted, mask as mask_of, plus, minus, complement, bracketed, Joined, finish, joined, Expression, names_then, term_then, joined_then, spelling, operator_mark}
+use Rattle.vax_lex.specs.Grammar.{Symbol, mark, Term, constant, named_by, quoted, mask as mask_of, single_mask, plus, minus, complement, bracketed, Joined, finish, joined, Expression, names_then, term_then, joined_then, spelling, operator_mark}
 use Rattle.vax_lex.specs.Values.{Operation, addition, subtraction, multiplication, division, arithmetic_shift, logical_and, inclusive_or, exclusive_or}
 use Rattle.vax_lex.specs.declared.value.Value.{Value}
 use Rattle.vax_asm_scope.specs.Scope.{Scope, Bound, mean, bind, bind_all, bound}
@@ -29,6 +29,7 @@ mutual
   term_uses (named_by s) rest = refl
   term_uses (quoted text) rest = refl
   term_uses (mask_of registers) rest = mask_passed registers rest
+  term_uses (single_mask register) rest = refl
   term_uses (plus t) rest = term_uses t rest
   term_uses (minus t) rest = term_uses t rest
   term_uses (complement t) rest = term_uses t rest

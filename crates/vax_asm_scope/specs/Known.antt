@@ -19,7 +19,7 @@ known_definition s None = None
 abbrev pub known : Value → Scope → List ℕ → Option Value
 known here s text =
     if bytes_eq text (codes ".") then Some here
-    else (if is_local text then known_definition s (option_map (λ l. l.definition) (s.names.locals text))
+    else (if is_local text then known_definition s (option_map (λ l. l.definition) (table.locals_of s.names text))
     else known_definition s (option_map (λ i. (table.name_at s.names.all i).definition) (s.names.numbers text)))
 
 -- what conditions and counts in a dialect are read by

@@ -77,7 +77,7 @@ mean_name e = record { definition = definition_at e; scope = e.scope }
 abbrev pub mean : Value → List ℕ → Scope → Meant
 mean here text s =
     if bytes_eq text (codes ".") then mean_here here s
-    else (if is_local text then mean_local text s (s.names.locals text) else mean_name (entry text s))
+    else (if is_local text then mean_local text s (table.locals_of s.names text) else mean_name (entry text s))
 
 -- names and what they mean, one behind another
 pub record Bound : Type 0 where
@@ -138,10 +138,14 @@ local_by text v s (Ok l) = Ok (record { names = table.with_local text l s.names;
 local_by text v s (Err e) = Err e
 
 abbrev pub labelled_locally : List ℕ → Value → Scope → Result Scope Duplicate
-labelled_locally text v s = local_by text v s (table.labelled_locally (length s.sources) (s.names.locals text))
+labelled_locally text v s = local_by text v s (table.labelled_locally (length s.sources) (table.locals_of s.names text))
 
 abbrev pub begun_block : Scope → Scope
-begun_block s = record s { names = table.without_locals s.names }
+begun_block s = record s { names = table.in_next_block s.names }
+
+-- a block of local labels that began before goes on
+abbrev pub in_block : ℕ → Scope → Scope
+in_block i s = record s { names = table.in_block i s.names }
 
 -- a name that other modules may use
 abbrev pub global_by : Entry → Scope
@@ -176,11 +180,16 @@ with_externals i (n ∷ names) sources =
 abbrev pub closed : Scope → Scope
 closed s = record s { sources = with_externals 0 s.names.all s.sources }
 
--- each name has a number in the list, and means a definition of so many
+-- the local labels of a block mean definitions of so many
+abbrev pub AreIn : ℕ → (List ℕ → Option Local) → Type 0
+AreIn definitions locals = (text : List ℕ) → ForSome (locals text) (λ l. l.definition < definitions)
+
+-- each name has a number in the list, and means a definition of so many; so does each local label, and the current block is there
 pub record InRange (names : table.Names) (definitions : ℕ) : Type 0 where
   pub numbers : (text : List ℕ) → ForSome (names.numbers text) (λ i. i < length names.all)
   pub all : All (λ n. n.definition < definitions) names.all
-  pub locals : (text : List ℕ) → ForSome (names.locals text) (λ l. l.definition < definitions)
+  pub block : names.block < length names.blocks
+  pub blocks : All (AreIn definitions) names.blocks
 
 abbrev pub IsInRange : Scope → Type 0
 IsInRange s = InRange s.names (length s.sources)

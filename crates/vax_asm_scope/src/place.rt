@@ -12,11 +12,12 @@ ghost use Rattle.vax_asm_scope.specs.Used.{behind, behind_mark, behind_name, use
 
 use vax_lex::{CanonicalName, Token, TokenKind};
 
-/// Where a token stands: where a name is a term, behind `^`, or in a register mask.
+/// Where a token stands: where a name is a term, behind `^`, behind `^M`, or in a register mask.
 #[derive(Clone, Copy, PartialEq, Eq)]
 pub(crate) enum Place {
     Term,
     Caret,
+    MaskOperator,
     Mask,
 }
 
@@ -47,8 +48,8 @@ fn behind_name(place: Place, name: &[u8]) -> Place
 {
     match place {
         Place::Term => Place::Term,
-        Place::Caret if is_mask(name) => Place::Mask,
-        Place::Caret => Place::Term,
+        Place::Caret if is_mask(name) => Place::MaskOperator,
+        Place::Caret | Place::MaskOperator => Place::Term,
         Place::Mask => Place::Mask,
     }
 }
@@ -59,8 +60,8 @@ fn behind_mark(place: Place, mark: u8) -> Place
     match place {
         Place::Term if mark == b'^' => Place::Caret,
         Place::Term | Place::Caret => Place::Term,
-        Place::Mask if mark == b'>' => Place::Term,
-        Place::Mask => Place::Mask,
+        Place::MaskOperator | Place::Mask if mark == b'>' => Place::Term,
+        Place::MaskOperator | Place::Mask => Place::Mask,
     }
 }
 

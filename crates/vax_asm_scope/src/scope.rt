@@ -30,7 +30,7 @@ impl Scope {
     ghost use Rattle.vax_asm_names.specs.View.{name_of};
     ghost use Rattle.vax_asm_scope.specs.Kept.{scope_of};
     ghost use Rattle.vax_asm_scope.specs.Known.{known};
-    ghost use Rattle.vax_asm_scope.specs.Scope.{nothing, entry, definition_at, definition_of, bound, labelled, assigned, labelled_locally, begun_block, made_global, external_names, closed};
+    ghost use Rattle.vax_asm_scope.specs.Scope.{nothing, entry, definition_at, definition_of, bound, labelled, assigned, labelled_locally, begun_block, in_block, made_global, external_names, closed};
     ghost use Rattle.vax_asm_scope.specs.Used.{names_of};
     ghost use Rattle.vax_asm_scope.specs.View.{Defines, Labels, texts_of};
     ghost use Rattle.vax_asm_values.specs.Certain.{certain};
@@ -222,12 +222,30 @@ impl Scope {
     }
 
     /// A block of local labels begins.
-    pub fn begin_block(&mut self, alloc: Global)
-        ensures { scope_of self.new ≡ begun_block (scope_of self.old) }
+    pub fn begin_block(&mut self, alloc: Global) -> Result<(), NoMemory>
+        ensures { OnOk result (scope_of self.new ≡ begun_block (scope_of self.old)) }
     {
         let Scope { tables, .. } = mem::replace(self, Scope::new(alloc));
         let mut tables = tables;
-        tables.names.begin_block(alloc);
+        tables.names.begin_block(alloc)?;
+        *self = Scope { tables };
+        Ok(())
+    }
+
+    /// The number of the current block of local labels.
+    pub fn block(&self) -> usize
+        ensures { result ≡ (scope_of self.now).names.block }
+    {
+        self.tables.names.block()
+    }
+
+    /// The block of local labels with this number goes on, if there is one.
+    pub fn go_back(&mut self, alloc: Global, block: usize)
+        ensures { scope_of self.new ≡ in_block block (scope_of self.old) }
+    {
+        let Scope { tables, .. } = mem::replace(self, Scope::new(alloc));
+        let mut tables = tables;
+        tables.names.go_back(block);
         *self = Scope { tables };
     }
 

@@ -116,7 +116,7 @@ fn close_all(
 }
 
 impl Tables {
-    ghost use Rattle.vax_asm_names.specs.Names.{name_at};
+    ghost use Rattle.vax_asm_names.specs.Names.{locals_of, name_at};
     ghost use Rattle.vax_asm_scope.specs.Known.{known};
     ghost use Rattle.vax_asm_scope.specs.PlaceView.{place_of};
     ghost use Rattle.vax_asm_scope.specs.Scope.{nothing, entry, definition_of, mean, mean_here, mean_local, bind, bind_all, bound, labelled, assigned, kept, labelled_locally, opened_if_fresh, made_global, closed};
@@ -185,9 +185,9 @@ impl Tables {
     /// What a local label means.
     fn local_meaning(&mut self, alloc: Global, text: &[u8]) -> Result<usize, NoMemory>
         ensures definition { IfOk result (λ d. d ≡ (mean_local text.now (scope_in self.old)
-            ((scope_in self.old).names.locals text.now)).definition) }
+            (locals_of (scope_in self.old).names text.now)).definition) }
         ensures scope { OnOk result (scope_in self.new ≡ (mean_local text.now (scope_in self.old)
-            ((scope_in self.old).names.locals text.now)).scope) }
+            (locals_of (scope_in self.old).names text.now)).scope) }
     {
         if let Some(local) = self.names.local(text) {
             return Ok(local.definition);

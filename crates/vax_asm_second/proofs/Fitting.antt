@@ -21,7 +21,7 @@ use Rattle.vax_module.specs.declared.RelocKind.{RelocKind}
 use Rattle.vax_asm_encode.specs.Bytes.{low_bytes, place_bytes, operand_bytes, Extends, HoldsIn, bytes_of as specifier_bytes}
 use Rattle.vax_asm_encode.proofs.Extending.{extends_low}
 use Rattle.vax_asm_encode.specs.Fields.{filled, literal, number, signed, displacement, outright, relocated, displacement_reloc, relative_reloc, reached, distance, address}
-use Rattle.vax_asm_encode.specs.Operands.{width_of, field_of, item_field, item_size, base_field, data_size, branch_size, place_of, may_stand, takes_branch}
+use Rattle.vax_asm_encode.specs.Operands.{width_of, field_of, item_bytes, item_field, base_field, data_size, branch_size, place_of, may_stand, takes_branch}
 use Rattle.vax_asm_encode.specs.declared.filling.Filled.{Filled}
 use Rattle.vax_asm_encode.specs.declared.filling.FieldFault.{FieldFault}
 use Rattle.vax_asm_encode.specs.declared.operand.Base.{Base}
@@ -32,7 +32,7 @@ use Rattle.vax_asm_encode.specs.declared.operand.Field.{Field}
 use Rattle.vax_asm_encode.specs.declared.operand.Field.TheVariants as field
 use Rattle.vax_asm_encode.specs.declared.operand.DataKind.{DataKind}
 use Rattle.vax_asm_encode.specs.declared.operand.DataKind.TheVariants as data_kind
-use Rattle.vax_asm_second.specs.Contents.{specifiers}
+use Rattle.vax_asm_second.specs.Contents.{item_in, sign_of, specifiers}
 use Rattle.vax_asm_second.specs.Laid.{link_to, holding, held}
 use Rattle.vax_asm_second.specs.declared.types.Held.{Held}
 use Rattle.vax_asm_second.specs.declared.types.Link.{Link}
@@ -161,14 +161,20 @@ operand_fits kind (operand.Indexed b x) f n k h e = omega (arith, base_fits b f 
 operand_fits kind operand.Branch f n k h e =
     omega (arith, some_width f (field.Relative (branch_size kind.width)) e, branch_width kind.width (k.branch (is_branch kind.letter h)), length_low kind.width n)
 
-pub data_fits : (d : DataKind) (f : Field) → Some (item_field d) ≡ Some f → field_width f ≡ bytes_of (item_size d)
-data_fits (data_kind.Number s) f e = some_width f (field.Number s) e
-data_fits (data_kind.Signed s) f e = some_width f (field.Signed s) e
+pub data_fits : (d : DataKind) (f : Field) → Some (item_field d) ≡ Some f → field_width f ≤ item_bytes d
+data_fits (data_kind.Number s) f e = omega (arith, some_width f (field.Number s) e)
+data_fits (data_kind.Signed s) f e = omega (arith, some_width f (field.Signed s) e)
+data_fits data_kind.Octaword f e = omega (arith, some_width f (field.Number size.Q) e)
 
-pub data_length : (s : Size) (count n : ℕ) → length (repeat count (low_bytes (bytes_of s) n)) ≡ count * bytes_of s
-data_length s zero n = omega arith
-data_length s (suc count) n =
-    length-append (low_bytes (bytes_of s) n) (repeat count (low_bytes (bytes_of s) n)) ∙ omega (arith, length_low (bytes_of s) n, data_length s count n, suc-mul count (bytes_of s))
+item_length : (d : DataKind) (n : ℕ) → length (item_in d n) ≡ item_bytes d
+item_length (data_kind.Number s) n = length_low (bytes_of s) n
+item_length (data_kind.Signed s) n = length_low (bytes_of s) n
+item_length data_kind.Octaword n = length-append (low_bytes 8 n) (low_bytes 8 (sign_of n)) ∙ omega (arith, length_low 8 n, length_low 8 (sign_of n))
+
+pub data_length : (d : DataKind) (count n : ℕ) → length (repeat count (item_in d n)) ≡ count * item_bytes d
+data_length d zero n = omega arith
+data_length d (suc count) n =
+    length-append (item_in d n) (repeat count (item_in d n)) ∙ omega (arith, item_length d n, data_length d count n, suc-mul count (item_bytes d))
 
 -- ---- every field can hold 0
 

@@ -24,7 +24,7 @@ use Rattle.vax_asm_names.specs.Names.{Name}
 use Rattle.vax_asm_first.specs.Contents.{IsSound}
 use Rattle.vax_asm_first.specs.Fixups.{Assignment, Fixup, Transfer}
 use Rattle.vax_asm_first.specs.Standing.{Standing}
-use Rattle.vax_asm_encode.specs.Operands.{item_size}
+use Rattle.vax_asm_encode.specs.Operands.{item_bytes}
 use Rattle.vax_asm_first.specs.declared.types.Content.{Content}
 use Rattle.vax_asm_first.specs.declared.types.Content.TheVariants as content
 use Rattle.vax_asm_scope.specs.Scope.{external_names, is_undefined}
@@ -118,12 +118,12 @@ contents_spread : (k : Known) (c : Content) (section at n : ℕ) (f : Field) (l 
     → Spread k section at (at + length (bytes_in c n)) (relocs_in c (record { section = section; offset = at + before_field c; kind = l.kind; target = l.target }))
 contents_spread k (content.Data d count) section at n f l h e w t =
     let r : Reloc = record { section = section; offset = at + 0; kind = l.kind; target = l.target } in
-    let step : width_of l.kind ≤ bytes_of (item_size d) = omega (arith, w, data_fits d f e) in
-    let end : at + 0 + count * bytes_of (item_size d) ≡ at + length (bytes_in (content.Data d count) n) = omega (arith, data_length (item_size d) count n) in
+    let step : width_of l.kind ≤ item_bytes d = omega (arith, w, data_fits d f e) in
+    let end : at + 0 + count * item_bytes d ≡ at + length (bytes_in (content.Data d count) n) = omega (arith, data_length d count n) in
     let start : at + 0 ≡ at = omega arith in
-    subst (λ (b : ℕ). Spread k section at b (every count (bytes_of (item_size d)) r)) end
-    (subst (λ (a : ℕ). Spread k section a (at + 0 + count * bytes_of (item_size d)) (every count (bytes_of (item_size d)) r)) start
-    (every_spread k count (bytes_of (item_size d)) r step t))
+    subst (λ (b : ℕ). Spread k section at b (every count (item_bytes d) r)) end
+    (subst (λ (a : ℕ). Spread k section a (at + 0 + count * item_bytes d) (every count (item_bytes d) r)) start
+    (every_spread k count (item_bytes d) r step t))
 contents_spread k (content.Operand kind o) section at n f l h e w t =
     let r : Reloc = record { section = section; offset = at + specifiers o; kind = l.kind; target = l.target } in
     spread_one k at (at + length (operand_bytes kind o n)) r (omega arith) (omega (arith, w, operand_fits kind o f n h.0 h.1 e)) t

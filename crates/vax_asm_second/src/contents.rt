@@ -2,16 +2,14 @@
 
 ghost use Rattle.std.specs.Prelude.{◌≡◌, ◌≤◌, ◌++◌, ◌∷◌, [], OnOk};
 ghost use Rattle.std.specs.List.{repeat};
-ghost use Rattle.vax_asm_encode.specs.Bytes.{low_bytes, HoldsIn};
-ghost use Rattle.vax_asm_second.specs.Contents.{field_in, specifiers, before_field, bytes_in, every, relocs_in};
+ghost use Rattle.vax_asm_encode.specs.Bytes.{HoldsIn};
+ghost use Rattle.vax_asm_second.specs.Contents.{field_in, item_in, sign_of, specifiers, before_field, bytes_in, every, relocs_in};
 ghost use Rattle.vax_asm_first.specs.Contents.{IsSound};
-ghost use Rattle.vax_word.specs.Arithmetic.{bytes_of};
 
-use vax_asm_encode::{Field, Operand, field_of, write_number, write_operand};
+use vax_asm_encode::{DataKind, Field, Operand, field_of, write_number, write_operand};
 use vax_asm_first::Content;
 use vax_module::Reloc;
 use vax_space::NoMemory;
-use vax_word::Size;
 
 /// What holds the value.
 pub(crate) fn field_in(content: Content) -> Option<Field>
@@ -45,15 +43,39 @@ pub(crate) fn before_field(content: Content) -> u32
     }
 }
 
-/// Writes a number so many times.
-#[tactic(auto, using(crate::proofs::Repeating::repeat_more, crate::proofs::Repeating::repeat_done))]
-fn write_data(out: &mut Vec<u8>, size: Size, count: u32, number: u64) -> Result<(), NoMemory>
-    ensures { OnOk result (out.new.items
-        ≡ out.old.items ++ repeat count (low_bytes (bytes_of size) number)) }
+/// A quadword with the sign of a number.
+fn sign_of(number: u64) -> u64
+    ensures { result ≡ sign_of number }
 {
-    let width = size.bytes() as u8;
+    if number < 0x8000_0000_0000_0000 {
+        0
+    } else {
+        u64::MAX
+    }
+}
+
+/// Writes an item that holds a number.
+fn write_item(out: &mut Vec<u8>, kind: DataKind, number: u64) -> Result<(), NoMemory>
+    ensures { OnOk result (out.new.items ≡ out.old.items ++ item_in kind number) }
+{
+    match kind {
+        DataKind::Number(size) | DataKind::Signed(size) => {
+            write_number(out, size.bytes() as u8, number)
+        }
+        DataKind::Octaword => {
+            write_number(out, 8, number)?;
+            write_number(out, 8, sign_of(number))
+        }
+    }
+}
+
+/// Writes an item so many times.
+#[tactic(auto, using(crate::proofs::Repeating::repeat_more, crate::proofs::Repeating::repeat_done))]
+fn write_data(out: &mut Vec<u8>, kind: DataKind, count: u32, number: u64) -> Result<(), NoMemory>
+    ensures { OnOk result (out.new.items ≡ out.old.items ++ repeat count (item_in kind number)) }
+{
     for _ in 0..count {
-        write_number(out, width, number)?;
+        write_item(out, kind, number)?;
     }
     Ok(())
 }
@@ -70,7 +92,7 @@ pub(crate) fn write_content(
 {
     match content {
         Content::Data { kind, count } => {
-            write_data(out, kind.size(), count, number)?;
+            write_data(out, kind, count, number)?;
             Ok(())
         }
         Content::Operand { kind, operand } => {
@@ -112,7 +134,7 @@ pub(crate) fn add_relocs(
 {
     match content {
         Content::Data { kind, count } => {
-            add_every(relocs, count, kind.size().bytes(), first)?;
+            add_every(relocs, count, kind.bytes(), first)?;
             Ok(())
         }
         Content::Operand { kind, operand } => {

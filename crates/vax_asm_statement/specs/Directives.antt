@@ -4,9 +4,9 @@ use Rattle.std.specs.Str.{str_eq_ignore_ascii_case}
 use Rattle.vax_dialect.specs.Differences.{has_further_directives}
 use Rattle.vax_dialect.specs.declared.Dialect.{Dialect}
 use Rattle.vax_word.specs.declared.Size.TheVariants as size
-use Rattle.vax_asm_encode.specs.declared.operand.DataKind.TheVariants.{Number, Signed}
+use Rattle.vax_asm_encode.specs.declared.operand.DataKind.TheVariants.{Number, Signed, Octaword}
 use Rattle.vax_asm_statement.specs.declared.directives.Directive.{Directive}
-use Rattle.vax_asm_statement.specs.declared.directives.Directive.TheVariants.{Section, Entry, Data, Address, Text, CountedText, ZeroText, Space, Reference, Align, Even, Odd, Global, External, Enable, Disable, Listing, End}
+use Rattle.vax_asm_statement.specs.declared.directives.Directive.TheVariants.{Section, Entry, Data, Address, Text, CountedText, ZeroText, DescribedText, Space, Reference, Align, Even, Odd, Global, External, Enable, Disable, Default, Save, Restore, Listing, End}
 use Rattle.vax_asm_statement.specs.declared.directives.Named.{Named}
 use Rattle.vax_asm_statement.specs.declared.directives.Attribute.{Attribute}
 use Rattle.vax_asm_statement.specs.declared.directives.Attribute.TheVariants.{Align as AlignTo, Write, Ignored}
@@ -26,11 +26,11 @@ directives =
     ∷ (codes ".ASCII", Text)
     ∷ (codes ".ASCIC", CountedText)
     ∷ (codes ".ASCIZ", ZeroText)
-    ∷ (codes ".BLKB", Space size.B)
-    ∷ (codes ".BLKW", Space size.W)
-    ∷ (codes ".BLKL", Space size.L)
-    ∷ (codes ".BLKA", Space size.L)
-    ∷ (codes ".BLKQ", Space size.Q)
+    ∷ (codes ".BLKB", Space (Number size.B))
+    ∷ (codes ".BLKW", Space (Number size.W))
+    ∷ (codes ".BLKL", Space (Number size.L))
+    ∷ (codes ".BLKA", Space (Number size.L))
+    ∷ (codes ".BLKQ", Space (Number size.Q))
     ∷ (codes ".ALIGN", Align)
     ∷ (codes ".EVEN", Even)
     ∷ (codes ".GLOBAL", Global)
@@ -53,9 +53,13 @@ directives =
 -- linked, and `.PRINT` and `.WARN` give messages.
 abbrev pub further_directives : List (List ℕ × Directive)
 further_directives =
-    (codes ".BLKF", Space size.L)
-    ∷ (codes ".BLKD", Space size.Q)
-    ∷ (codes ".BLKG", Space size.Q)
+    (codes ".ASCID", DescribedText)
+    ∷ (codes ".OCTA", Data Octaword)
+    ∷ (codes ".BLKO", Space Octaword)
+    ∷ (codes ".BLKH", Space Octaword)
+    ∷ (codes ".BLKF", Space (Number size.L))
+    ∷ (codes ".BLKD", Space (Number size.Q))
+    ∷ (codes ".BLKG", Space (Number size.Q))
     ∷ (codes ".REF1", Reference size.B)
     ∷ (codes ".REF2", Reference size.W)
     ∷ (codes ".REF4", Reference size.L)
@@ -66,6 +70,11 @@ further_directives =
     ∷ (codes ".ENABL", Enable)
     ∷ (codes ".DISABLE", Disable)
     ∷ (codes ".DSABL", Disable)
+    ∷ (codes ".DEFAULT", Default)
+    ∷ (codes ".SAVE_PSECT", Save)
+    ∷ (codes ".SAVE", Save)
+    ∷ (codes ".RESTORE_PSECT", Restore)
+    ∷ (codes ".RESTORE", Restore)
     ∷ (codes ".CROSS", Listing)
     ∷ (codes ".NOCROSS", Listing)
     ∷ (codes ".DEBUG", Listing)

@@ -16,7 +16,7 @@ pub enum Directive {
     Section,
     /// `.ENTRY name,mask`.
     Entry,
-    /// `.BYTE`, `.WORD`, `.LONG`, `.QUAD`, `.SIGNED_BYTE`, `.SIGNED_WORD`: items of this kind.
+    /// `.BYTE`, `.WORD`, `.LONG`, `.QUAD`, `.OCTA`, `.SIGNED_BYTE`, `.SIGNED_WORD`: items of this kind.
     Data(DataKind),
     /// `.ADDRESS`: addresses.
     Address,
@@ -26,8 +26,10 @@ pub enum Directive {
     CountedText,
     /// `.ASCIZ`: a zero byte last.
     ZeroText,
-    /// `.BLKB`, `.BLKW`, `.BLKL`, `.BLKA`, `.BLKQ`, `.BLKF`, `.BLKD`, `.BLKG`: room for so many of this size.
-    Space(Size),
+    /// `.ASCID`: a descriptor first.
+    DescribedText,
+    /// `.BLKB`, `.BLKW`, `.BLKL`, `.BLKA`, `.BLKQ`, `.BLKF`, `.BLKD`, `.BLKG`, `.BLKO`, `.BLKH`: room for so many items of this kind.
+    Space(DataKind),
     /// `.REF1`, `.REF2`, `.REF4`, `.REF8`: an operand that has so many bytes, without an opcode.
     Reference(Size),
     /// `.ALIGN`: up to a multiple of a power of two.
@@ -44,6 +46,12 @@ pub enum Directive {
     Enable,
     /// `.DISABLE`, `.DSABL`: those that aren't.
     Disable,
+    /// `.DEFAULT`: the size of a displacement to what isn't known.
+    Default,
+    /// `.SAVE_PSECT`, `.SAVE`: the section is put aside.
+    Save,
+    /// `.RESTORE_PSECT`, `.RESTORE`: the section that was put aside last goes on.
+    Restore,
     /// `.TITLE`, `.SBTTL`, `.SUBTITLE`, `.IDENT`, `.PAGE`, `.LIST`, `.NLIST`, `.SHOW`, `.NOSHOW`, `.CROSS`, `.NOCROSS`, `.DEBUG`,
     /// `.LIBRARY`, `.MCALL`, `.LINK`, `.PRINT`, `.WARN`: nothing in the module.
     Listing,
@@ -71,11 +79,11 @@ static DIRECTIVES: [Named; 33] = [
     Named { name: ".ASCII", directive: Directive::Text },
     Named { name: ".ASCIC", directive: Directive::CountedText },
     Named { name: ".ASCIZ", directive: Directive::ZeroText },
-    Named { name: ".BLKB", directive: Directive::Space(Size::B) },
-    Named { name: ".BLKW", directive: Directive::Space(Size::W) },
-    Named { name: ".BLKL", directive: Directive::Space(Size::L) },
-    Named { name: ".BLKA", directive: Directive::Space(Size::L) },
-    Named { name: ".BLKQ", directive: Directive::Space(Size::Q) },
+    Named { name: ".BLKB", directive: Directive::Space(DataKind::Number(Size::B)) },
+    Named { name: ".BLKW", directive: Directive::Space(DataKind::Number(Size::W)) },
+    Named { name: ".BLKL", directive: Directive::Space(DataKind::Number(Size::L)) },
+    Named { name: ".BLKA", directive: Directive::Space(DataKind::Number(Size::L)) },
+    Named { name: ".BLKQ", directive: Directive::Space(DataKind::Number(Size::Q)) },
     Named { name: ".ALIGN", directive: Directive::Align },
     Named { name: ".EVEN", directive: Directive::Even },
     Named { name: ".GLOBAL", directive: Directive::Global },
@@ -102,10 +110,14 @@ fn all_directives() -> &'static [Named; 33]
 
 /// Those of one dialect alone.
 #[rattlefmt::skip]
-static FURTHER_DIRECTIVES: [Named; 21] = [
-    Named { name: ".BLKF", directive: Directive::Space(Size::L) },
-    Named { name: ".BLKD", directive: Directive::Space(Size::Q) },
-    Named { name: ".BLKG", directive: Directive::Space(Size::Q) },
+static FURTHER_DIRECTIVES: [Named; 30] = [
+    Named { name: ".ASCID", directive: Directive::DescribedText },
+    Named { name: ".OCTA", directive: Directive::Data(DataKind::Octaword) },
+    Named { name: ".BLKO", directive: Directive::Space(DataKind::Octaword) },
+    Named { name: ".BLKH", directive: Directive::Space(DataKind::Octaword) },
+    Named { name: ".BLKF", directive: Directive::Space(DataKind::Number(Size::L)) },
+    Named { name: ".BLKD", directive: Directive::Space(DataKind::Number(Size::Q)) },
+    Named { name: ".BLKG", directive: Directive::Space(DataKind::Number(Size::Q)) },
     Named { name: ".REF1", directive: Directive::Reference(Size::B) },
     Named { name: ".REF2", directive: Directive::Reference(Size::W) },
     Named { name: ".REF4", directive: Directive::Reference(Size::L) },
@@ -116,6 +128,11 @@ static FURTHER_DIRECTIVES: [Named; 21] = [
     Named { name: ".ENABL", directive: Directive::Enable },
     Named { name: ".DISABLE", directive: Directive::Disable },
     Named { name: ".DSABL", directive: Directive::Disable },
+    Named { name: ".DEFAULT", directive: Directive::Default },
+    Named { name: ".SAVE_PSECT", directive: Directive::Save },
+    Named { name: ".SAVE", directive: Directive::Save },
+    Named { name: ".RESTORE_PSECT", directive: Directive::Restore },
+    Named { name: ".RESTORE", directive: Directive::Restore },
     Named { name: ".CROSS", directive: Directive::Listing },
     Named { name: ".NOCROSS", directive: Directive::Listing },
     Named { name: ".DEBUG", directive: Directive::Listing },
@@ -126,7 +143,7 @@ static FURTHER_DIRECTIVES: [Named; 21] = [
     Named { name: ".WARN", directive: Directive::Listing },
 ];
 
-fn all_further_directives() -> &'static [Named; 21]
+fn all_further_directives() -> &'static [Named; 30]
     ensures { map named result.now ≡ further_directives }
 {
     &FURTHER_DIRECTIVES

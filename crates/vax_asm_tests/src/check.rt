@@ -65,45 +65,27 @@ fn all_faults_are_listed(rt: HostRuntime) -> Result<(), Fail> {
                 (7, FaultKind::Count),
             ],
         },
+        // what a statement's text alone decides, without a label, behind one and behind a faulty one
+        Row {
+            source: b"A: FROB\nA: NOP\nA: MOVL R0\nA: NOP\n #\n FROB 18446744073709551616\n FROB \x01\n .TITLE A \x01\n",
+            wanted: &[
+                (1, FaultKind::UnknownOperator),
+                (3, FaultKind::Count),
+                (4, FaultKind::Duplicate),
+                (5, FaultKind::Form),
+                (6, FaultKind::UnknownOperator),
+                (7, FaultKind::Token),
+            ],
+        },
         // a begin without its end
         Row {
             source: b" HALT R1\n .IF DF X\n HALT\n",
             wanted: &[(1, FaultKind::Count), (2, FaultKind::Nesting)],
         },
     ];
-    let limits = Limits {
-        faults: 100,
-        lines: 0,
-    };
     for row in &rows {
-        let found = faults(alloc, Dialect::Vax, row.source, limits)?;
-        assert!(rt; found.are_all && are(&found.faults, row.wanted));
+        let found = faults(alloc, Dialect::Vax, row.source)?;
+        assert!(rt; are(&found, row.wanted));
     }
-    Ok(())
-}
-
-#[test]
-fn no_more_are_looked_for(rt: HostRuntime) -> Result<(), Fail> {
-    let alloc = rt.alloc();
-    let source = b" HALT R1\n NOP\n HALT R2\n HALT R3\n";
-    let limits = Limits {
-        faults: 2,
-        lines: 4,
-    };
-    let found = faults(alloc, Dialect::Vax, source, limits)?;
-    assert!(rt; !found.are_all);
-    assert!(rt;
-        are(
-            &found.faults,
-            &[(1, FaultKind::Count), (3, FaultKind::Count)]
-        )
-    );
-    // where fewer lines stand up to them they are all looked for
-    let limits = Limits {
-        faults: 2,
-        lines: 9,
-    };
-    let found = faults(alloc, Dialect::Vax, source, limits)?;
-    assert!(rt; found.are_all && found.faults.len() == 3);
     Ok(())
 }

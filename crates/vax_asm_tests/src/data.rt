@@ -20,7 +20,7 @@ enum Directive {
     Data(DataKind),
     Addresses,
     Text(TextForm),
-    Space(Size),
+    Space(DataKind),
     Align,
     Even,
 }
@@ -44,7 +44,7 @@ fn stated(
         Directive::Data(kind) => data(standing, alloc, ORIGIN, &line, kind, operands),
         Directive::Addresses => addresses(standing, alloc, ORIGIN, &line, operands),
         Directive::Text(form) => vax_asm_data::text(standing, alloc, ORIGIN, &line, form, operands),
-        Directive::Space(size) => space(standing, alloc, ORIGIN, &line, size, operands),
+        Directive::Space(kind) => space(standing, alloc, ORIGIN, &line, kind, operands),
         Directive::Align => align(standing, alloc, ORIGIN, &line, operands),
         Directive::Even => even(standing, operands),
     };
@@ -94,7 +94,7 @@ const SIGNED_BYTES: Directive = Directive::Data(DataKind::Signed(Size::B));
 
 const SIGNED_WORDS: Directive = Directive::Data(DataKind::Signed(Size::W));
 
-const LONGWORDS: Directive = Directive::Space(Size::L);
+const LONGWORDS: Directive = Directive::Space(DataKind::Number(Size::L));
 
 #[test]
 fn lays_out_items(rt: HostRuntime) -> Result<(), Fail> {
@@ -150,7 +150,7 @@ fn lays_out_room_and_boundaries(rt: HostRuntime) -> Result<(), Fail> {
         (LONGWORDS, ".BLKL", Ok(4)),
         (LONGWORDS, ".BLKL 2+1", Ok(12)),
         (
-            Directive::Space(Size::B),
+            Directive::Space(DataKind::Number(Size::B)),
             ".BLKB 1,2",
             Err(FaultKind::Count),
         ),

@@ -1,6 +1,6 @@
 -- An expression that has a value keeps it when more names have one.
 use Rattle.std.proofs.Common.{◌≡◌, ℕ, suc, List, [], ◌∷◌, length, Option, Some, None, Result, Ok, Err, refl}
-use Rattle.vax_lex.specs.Grammar.{Symbol, Term, constant, named_by, quoted, mask, plus, minus, complement, bracketed, Joined, finish, joined, term_value, joined_value}
+use Rattle.vax_lex.specs.Grammar.{Symbol, Term, constant, named_by, quoted, mask, single_mask, plus, minus, complement, bracketed, Joined, finish, joined, term_value, joined_value}
 use Rattle.vax_lex.specs.Expressions.{TermRead, JoinedRead, term_in, joined_in, whole_value, value_behind, value_at}
 use Rattle.vax_dialect.specs.declared.Dialect.{Dialect}
 use Rattle.vax_lex.specs.Values.{Operation, Sense, combine, combined, complement_of, complemented, fitted, minus_of, named, negated}
@@ -62,6 +62,7 @@ mutual
   term_below d f g h (named_by s) = named_below d f g h s
   term_below d f g h (quoted text) = λ v e. e
   term_below d f g h (mask registers) = λ v e. e
+  term_below d f g h (single_mask register) = λ v e. e
   term_below d f g h (plus t) = term_below d f g h t
   term_below d f g h (minus t) = minus_below d (term_value (under d f) t) (term_value (under d g) t) (term_below d f g h t)
   term_below d f g h (complement t) = complement_below d (term_value (under d f) t) (term_value (under d g) t) (term_below d f g h t)

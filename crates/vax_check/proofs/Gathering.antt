@@ -10,6 +10,7 @@ use Rattle.vax_check.specs.View.{file_seen, files_seen, with_if}
 use Rattle.vax_check.specs.declared.sources.Role.{Role}
 use Rattle.vax_dialect.specs.declared.Dialect.{Dialect}
 use Rattle.vax_lines.specs.Lines.{Text}
+use Rattle.vax_prelude.specs.Preludes.{Title}
 use Rattle.vax_program.specs.View.{texts}
 
 -- one more stands in front of the rest
@@ -19,7 +20,7 @@ moved before after s rest all e h =
     ∙ append_assoc (files_seen before) (file_seen s ∷ []) rest ∙ h
 
 -- behind the last text there is no file
-none_left : (names : List Text) → files_of names [] ≡ []
+none_left : (names : List Title) → files_of names [] ≡ []
 unfolding files_of
 none_left [] = refl
 none_left (name ∷ names) = refl
@@ -28,7 +29,7 @@ none_short : (files : List (Vec ℕ)) → length files < 1 → files ≡ []
 none_short [] h = refl
 none_short (f ∷ files) h = absurd (omega (arith, h))
 
-pub none_behind : (names : List Text) (files : List (Vec ℕ)) (before all : List File) → length files < 1 → before ++ files_of names (texts files) ≡ all → before ≡ all
+pub none_behind : (names : List Title) (files : List (Vec ℕ)) (before all : List File) → length files < 1 → before ++ files_of names (texts files) ≡ all → before ≡ all
 none_behind names files before all e h =
     sym (append-nil before) ∙ ap (λ (l : List File). before ++ l) (sym (none_left names)) ∙ ap (λ (fs : List (Vec ℕ)). before ++ files_of names (texts fs)) (sym (none_short files e)) ∙ h
 

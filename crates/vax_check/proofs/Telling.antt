@@ -7,9 +7,10 @@ use Rattle.std.specs.Global.{Vec}
 use Rattle.std.specs.Prelude.{slice_index_or}
 use Rattle.vax_asm_causes.specs.Remarks.{Asked}
 use Rattle.vax_check.specs.Told.{AreRemarked, AreTold, IsFileRemarked, IsFileTold}
-use Rattle.vax_check.specs.View.{names_of}
+use Rattle.vax_check.specs.View.{titles_of}
 use Rattle.vax_dialect.specs.declared.Dialect.{Dialect}
 use Rattle.vax_lines.specs.Lines.{Text}
+use Rattle.vax_prelude.specs.Preludes.{Prelude, Title}
 use Rattle.vax_program.specs.View.{texts}
 
 pub here : {X : Type 0} (list : List X) (i : ℕ) (x : X) → i < length list → x ≡ slice_index_or list i x → drop i list ≡ x ∷ drop (i + 1) list
@@ -25,33 +26,33 @@ pub past : (names files i stop : ℕ) → stop ≡ min names files → stop ≤ 
 past names files i stop e h = past_by names files i stop e h (cases_lt i names) (cases_lt i files)
 
 -- the errors of one more file, and of no more
-pub file_more : {All : Text → Type 0} (dialect : Dialect) (names : List (Bor Text)) (files : List (Vec ℕ)) (i : ℕ) (n : Bor Text) (f : Vec ℕ) (before between : Text) → i < length names → i < length files → n ≡ slice_index_or names i n → f ≡ slice_index_or files i f → IsFileTold dialect n.now f.items before between
-    → ((after : Text) → AreTold dialect (names_of (drop i names)) (texts (drop i files)) before after → All after) → (after : Text) → AreTold dialect (names_of (drop (i + 1) names)) (texts (drop (i + 1) files)) between after → All after
-file_more dialect names files i n f before between hn hf en ef h all after more = all after (rw (here names i n hn en, here files i f hf ef) (between, h, more))
+pub file_more : {All : Text → Type 0} (dialect : Dialect) (preludes : List Prelude) (names : List (Bor Text)) (files : List (Vec ℕ)) (i : ℕ) (n : Bor Text) (f : Vec ℕ) (before between : Text) → i < length names → i < length files → n ≡ slice_index_or names i n → f ≡ slice_index_or files i f → IsFileTold dialect (record { preludes = preludes; name = n.now }) f.items before between
+    → ((after : Text) → AreTold dialect (titles_of preludes (drop i names)) (texts (drop i files)) before after → All after) → (after : Text) → AreTold dialect (titles_of preludes (drop (i + 1) names)) (texts (drop (i + 1) files)) between after → All after
+file_more dialect preludes names files i n f before between hn hf en ef h all after more = all after (rw (here names i n hn en, here files i f hf ef) (between, h, more))
 
-none_told : (dialect : Dialect) (names : List Text) (before : Text) → AreTold dialect names [] before before
+none_told : (dialect : Dialect) (names : List Title) (before : Text) → AreTold dialect names [] before before
 none_told dialect [] before = refl
 none_told dialect (name ∷ names) before = refl
 
-files_done_by : {All : Text → Type 0} (dialect : Dialect) (names : List (Bor Text)) (files : List (Vec ℕ)) (i : ℕ) (before : Text) → (length names ≤ i) ⊎ (length files ≤ i) → ((after : Text) → AreTold dialect (names_of (drop i names)) (texts (drop i files)) before after → All after) → All before
-files_done_by dialect names files i before (inl few) all = all before (rw (drop_all i names few) refl)
-files_done_by dialect names files i before (inr few) all = all before (rw (drop_all i files few) (none_told dialect (names_of (drop i names)) before))
+files_done_by : {All : Text → Type 0} (dialect : Dialect) (preludes : List Prelude) (names : List (Bor Text)) (files : List (Vec ℕ)) (i : ℕ) (before : Text) → (length names ≤ i) ⊎ (length files ≤ i) → ((after : Text) → AreTold dialect (titles_of preludes (drop i names)) (texts (drop i files)) before after → All after) → All before
+files_done_by dialect preludes names files i before (inl few) all = all before (rw (drop_all i names few) refl)
+files_done_by dialect preludes names files i before (inr few) all = all before (rw (drop_all i files few) (none_told dialect (titles_of preludes (drop i names)) before))
 
-pub files_done : {All : Text → Type 0} (dialect : Dialect) (names : List (Bor Text)) (files : List (Vec ℕ)) (i stop : ℕ) (before : Text) → stop ≡ min (length names) (length files) → stop ≤ i → ((after : Text) → AreTold dialect (names_of (drop i names)) (texts (drop i files)) before after → All after) → All before
-files_done dialect names files i stop before e h all = files_done_by dialect names files i before (past (length names) (length files) i stop e h) all
+pub files_done : {All : Text → Type 0} (dialect : Dialect) (preludes : List Prelude) (names : List (Bor Text)) (files : List (Vec ℕ)) (i stop : ℕ) (before : Text) → stop ≡ min (length names) (length files) → stop ≤ i → ((after : Text) → AreTold dialect (titles_of preludes (drop i names)) (texts (drop i files)) before after → All after) → All before
+files_done dialect preludes names files i stop before e h all = files_done_by dialect preludes names files i before (past (length names) (length files) i stop e h) all
 
 -- the remarks on one more file, and on no more
-pub remark_more : {All : Text → Type 0} (asked : Asked) (names : List (Bor Text)) (files : List (Vec ℕ)) (i : ℕ) (n : Bor Text) (f : Vec ℕ) (before between : Text) → i < length names → i < length files → n ≡ slice_index_or names i n → f ≡ slice_index_or files i f → IsFileRemarked asked n.now f.items before between
-    → ((after : Text) → AreRemarked asked (names_of (drop i names)) (texts (drop i files)) before after → All after) → (after : Text) → AreRemarked asked (names_of (drop (i + 1) names)) (texts (drop (i + 1) files)) between after → All after
-remark_more asked names files i n f before between hn hf en ef h all after more = all after (rw (here names i n hn en, here files i f hf ef) (between, h, more))
+pub remark_more : {All : Text → Type 0} (asked : Asked) (preludes : List Prelude) (names : List (Bor Text)) (files : List (Vec ℕ)) (i : ℕ) (n : Bor Text) (f : Vec ℕ) (before between : Text) → i < length names → i < length files → n ≡ slice_index_or names i n → f ≡ slice_index_or files i f → IsFileRemarked asked (record { preludes = preludes; name = n.now }) f.items before between
+    → ((after : Text) → AreRemarked asked (titles_of preludes (drop i names)) (texts (drop i files)) before after → All after) → (after : Text) → AreRemarked asked (titles_of preludes (drop (i + 1) names)) (texts (drop (i + 1) files)) between after → All after
+remark_more asked preludes names files i n f before between hn hf en ef h all after more = all after (rw (here names i n hn en, here files i f hf ef) (between, h, more))
 
-none_remarked : (asked : Asked) (names : List Text) (before : Text) → AreRemarked asked names [] before before
+none_remarked : (asked : Asked) (names : List Title) (before : Text) → AreRemarked asked names [] before before
 none_remarked asked [] before = refl
 none_remarked asked (name ∷ names) before = refl
 
-remarks_done_by : {All : Text → Type 0} (asked : Asked) (names : List (Bor Text)) (files : List (Vec ℕ)) (i : ℕ) (before : Text) → (length names ≤ i) ⊎ (length files ≤ i) → ((after : Text) → AreRemarked asked (names_of (drop i names)) (texts (drop i files)) before after → All after) → All before
-remarks_done_by asked names files i before (inl few) all = all before (rw (drop_all i names few) refl)
-remarks_done_by asked names files i before (inr few) all = all before (rw (drop_all i files few) (none_remarked asked (names_of (drop i names)) before))
+remarks_done_by : {All : Text → Type 0} (asked : Asked) (preludes : List Prelude) (names : List (Bor Text)) (files : List (Vec ℕ)) (i : ℕ) (before : Text) → (length names ≤ i) ⊎ (length files ≤ i) → ((after : Text) → AreRemarked asked (titles_of preludes (drop i names)) (texts (drop i files)) before after → All after) → All before
+remarks_done_by asked preludes names files i before (inl few) all = all before (rw (drop_all i names few) refl)
+remarks_done_by asked preludes names files i before (inr few) all = all before (rw (drop_all i files few) (none_remarked asked (titles_of preludes (drop i names)) before))
 
-pub remarks_done : {All : Text → Type 0} (asked : Asked) (names : List (Bor Text)) (files : List (Vec ℕ)) (i stop : ℕ) (before : Text) → stop ≡ min (length names) (length files) → stop ≤ i → ((after : Text) → AreRemarked asked (names_of (drop i names)) (texts (drop i files)) before after → All after) → All before
-remarks_done asked names files i stop before e h all = remarks_done_by asked names files i before (past (length names) (length files) i stop e h) all
+pub remarks_done : {All : Text → Type 0} (asked : Asked) (preludes : List Prelude) (names : List (Bor Text)) (files : List (Vec ℕ)) (i stop : ℕ) (before : Text) → stop ≡ min (length names) (length files) → stop ≤ i → ((after : Text) → AreRemarked asked (titles_of preludes (drop i names)) (texts (drop i files)) before after → All after) → All before
+remarks_done asked preludes names files i stop before e h all = remarks_done_by asked preludes names files i before (past (length names) (length files) i stop e h) all

@@ -10,19 +10,20 @@ use Rattle.vax_check.specs.declared.sources.Role.{Role}
 use Rattle.vax_check.specs.declared.sources.Role.TheVariants.{Asks, Defines, Begins}
 use Rattle.vax_dialect.specs.declared.Dialect.{Dialect}
 use Rattle.vax_lines.specs.Lines.{Text}
+use Rattle.vax_prelude.specs.Preludes.{Title, name_at, number_at}
 use Rattle.vax_module.specs.declared.Module.{Module}
 use Rattle.vax_outside.specs.Hex.{hex}
 use Rattle.vax_program.specs.Program.{is_linked}
 
--- A file by its name and its bytes.
+-- A file by its title and its bytes.
 pub record File : Type 0 where
-  pub name : Text
+  pub title : Title
   pub text : Text
 
-unfoldable pub files_of : (names texts : List Text) → List File
+unfoldable pub files_of : List Title → (texts : List Text) → List File
 files_of [] texts = []
-files_of (name ∷ names) [] = []
-files_of (name ∷ names) (text ∷ texts) = record { name = name; text = text } ∷ files_of names texts
+files_of (title ∷ titles) [] = []
+files_of (title ∷ titles) (text ∷ texts) = record { title = title; text = text } ∷ files_of titles texts
 
 -- a module asks other files for a name, defines it for them, or says where the program begins
 abbrev pub has_part : Role → (name : Text) → Module → Bool
@@ -53,12 +54,12 @@ line_for Defines name source = or_else (first_line Definition name source) (firs
 line_for Begins name source = first_line Anywhere (codes ".END") source
 
 -- a place: a file, and a line of it where one is known
-abbrev pub line_text : Option ℕ → Text
-line_text None = []
-line_text (Some line) = codes ":" ++ decimal line
+abbrev pub line_text : Title → Option ℕ → Text
+line_text title None = title.name
+line_text title (Some line) = name_at title line ++ codes ":" ++ decimal (number_at title line)
 
 unfoldable pub spot : Role → (name : Text) → File → Text
-spot role name file = file.name ++ line_text (line_for role name file.text)
+spot role name file = line_text file.title (line_for role name file.text)
 
 -- the place of the first of these files
 abbrev pub first_spot : Role → (name : Text) → List File → Text
@@ -104,7 +105,7 @@ link_detail kind address = if kind == 5 then hex 8 address else []
 -- the name of a file that stands alone
 abbrev pub lone_file : List File → Text
 lone_file [] = []
-lone_file (file ∷ []) = file.name ++ codes ": "
+lone_file (file ∷ []) = file.title.name ++ codes ": "
 lone_file (file ∷ other ∷ files) = []
 
 unfoldable pub other_text : (kind address : ℕ) → List File → Text

@@ -6,27 +6,28 @@ use Rattle.vax_asm_errors.specs.Remarks.{IsRemarked}
 use Rattle.vax_dialect.specs.declared.Dialect.{Dialect}
 use Rattle.vax_check.specs.Linking.{files_of, link_text}
 use Rattle.vax_lines.specs.Lines.{Text}
-use Rattle.vax_program.specs.Program.{Refusal, Source, Link, InImage, is_linked}
+use Rattle.vax_prelude.specs.Preludes.{Title}
+use Rattle.vax_program.specs.Program.{Refusal, Source, Link, InImage, InPrelude, is_linked}
 
 -- the errors of one file of a dialect were added, if it is a source
-abbrev pub IsFileTold : Dialect → (name file before after : Text) → Type 0
-IsFileTold dialect name file before after = ((is_linked file ≡ true) × (after ≡ before)) ⊎ ((is_linked file ≡ false) × IsErrors dialect name file before after)
+abbrev pub IsFileTold : Dialect → Title → (file before after : Text) → Type 0
+IsFileTold dialect title file before after = ((is_linked file ≡ true) × (after ≡ before)) ⊎ ((is_linked file ≡ false) × IsErrors dialect title file before after)
 
 -- the errors of all sources of a dialect among these files, in order
-abbrev pub AreTold : Dialect → (names files : List Text) → (before after : Text) → Type 0
+abbrev pub AreTold : Dialect → List Title → (files : List Text) → (before after : Text) → Type 0
 AreTold dialect [] files before after = after ≡ before
-AreTold dialect (name ∷ names) [] before after = after ≡ before
-AreTold dialect (name ∷ names) (file ∷ files) before after = (between : Text) × IsFileTold dialect name file before between × AreTold dialect names files between after
+AreTold dialect (title ∷ titles) [] before after = after ≡ before
+AreTold dialect (title ∷ titles) (file ∷ files) before after = (between : Text) × IsFileTold dialect title file before between × AreTold dialect titles files between after
 
 -- the remarks on one file that are asked for were added, if it is a source
-abbrev pub IsFileRemarked : Asked → (name file before after : Text) → Type 0
-IsFileRemarked asked name file before after = ((is_linked file ≡ true) × (after ≡ before)) ⊎ ((is_linked file ≡ false) × IsRemarked name file asked before after)
+abbrev pub IsFileRemarked : Asked → Title → (file before after : Text) → Type 0
+IsFileRemarked asked title file before after = ((is_linked file ≡ true) × (after ≡ before)) ⊎ ((is_linked file ≡ false) × IsRemarked title file asked before after)
 
 -- those on all sources among these files, in order
-abbrev pub AreRemarked : Asked → (names files : List Text) → (before after : Text) → Type 0
+abbrev pub AreRemarked : Asked → List Title → (files : List Text) → (before after : Text) → Type 0
 AreRemarked asked [] files before after = after ≡ before
-AreRemarked asked (name ∷ names) [] before after = after ≡ before
-AreRemarked asked (name ∷ names) (file ∷ files) before after = (between : Text) × IsFileRemarked asked name file before between × AreRemarked asked names files between after
+AreRemarked asked (title ∷ titles) [] before after = after ≡ before
+AreRemarked asked (title ∷ titles) (file ∷ files) before after = (between : Text) × IsFileRemarked asked title file before between × AreRemarked asked titles files between after
 
 unfoldable pub asked_with : (bare unused : Bool) → (name : Text) → Asked
 asked_with bare unused name = record { bare = bare; unused = unused; name = name }
@@ -38,6 +39,7 @@ asked_of bare None = asked_with bare true []
 asked_of bare (Some (Link kind name address)) = asked_with bare true name
 asked_of bare (Some (Source file line kind)) = asked_with bare false []
 asked_of bare (Some (InImage place kind)) = asked_with bare false []
+asked_of bare (Some (InPrelude file line kind)) = asked_with bare false []
 
 -- the fault of a field of an executable, in words
 unfoldable pub executable_words : ℕ → Text
@@ -86,13 +88,15 @@ unfoldable pub image_text : ℕ → ℕ → Text
 image_text place kind = image_head kind ++ image_words kind ++ image_place place
 
 -- the faults of all sources, or what the linker found, or the fault of an image's or an executable's file
-abbrev pub AreErrorsOf : Dialect → (names files : List Text) → Refusal → Text → Type 0
-AreErrorsOf dialect names files (Source file line kind) text = AreTold dialect names files [] text
-AreErrorsOf dialect names files (Link kind name address) text = text ≡ link_text dialect kind name address (files_of names files)
-AreErrorsOf dialect names files (InImage place kind) text = text ≡ image_text place kind
+abbrev pub AreErrorsOf : Dialect → List Title → (files : List Text) → Refusal → Text → Type 0
+AreErrorsOf dialect titles files (Source file line kind) text = AreTold dialect titles files [] text
+AreErrorsOf dialect titles files (Link kind name address) text = text ≡ link_text dialect kind name address (files_of titles files)
+AreErrorsOf dialect titles files (InImage place kind) text = text ≡ image_text place kind
+AreErrorsOf dialect titles files (InPrelude file line kind) text = AreTold dialect titles files [] text
 
--- What is told of files of a program, which may be one for the bare machine: why they give none, if they give none, and then remarks on their sources.
-abbrev pub Tells : Dialect → (bare : Bool) → (names files : List Text) → Option Refusal → Text → Type 0
-Tells dialect bare names files None text = AreRemarked (asked_of bare None) names files [] text
-Tells dialect bare names files (Some refusal) text =
-    (errors : Text) × AreErrorsOf dialect names files refusal errors × AreRemarked (asked_of bare (Some refusal)) names files errors text
+-- What is told of files of a program, which may be one for the bare machine: why they give none, if they give none, and then remarks on their sources. The
+-- text of a source begins with what stands before it.
+abbrev pub Tells : Dialect → (bare : Bool) → List Title → (files : List Text) → Option Refusal → Text → Type 0
+Tells dialect bare titles files None text = AreRemarked (asked_of bare None) titles files [] text
+Tells dialect bare titles files (Some refusal) text =
+    (errors : Text) × AreErrorsOf dialect titles files refusal errors × AreRemarked (asked_of bare (Some refusal)) titles files errors text

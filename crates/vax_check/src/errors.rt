@@ -2,12 +2,14 @@
 
 ghost use Rattle.std.specs.Prelude.{◌≡◌, [], IfOk, OnOk};
 ghost use Rattle.vax_check.specs.Told.{AreTold, IsFileTold};
-ghost use Rattle.vax_check.specs.View.{names_of};
+ghost use Rattle.vax_check.specs.View.{titles_of};
+ghost use Rattle.vax_prelude.specs.View.{preludes_seen, title_seen};
 ghost use Rattle.vax_program.specs.Program.{is_image, is_linked};
 ghost use Rattle.vax_program.specs.View.{texts as texts_seen};
 
+use crate::text::Files;
 use std::alloc::Global;
-use vax_asm_errors::{Source, push_errors};
+use vax_asm_errors::{Prelude, Source, Title, push_errors};
 use vax_dialect::Dialect;
 use vax_elf::is_executable;
 use vax_space::NoMemory;
@@ -28,8 +30,8 @@ pub(crate) fn is_linked(file: &[u8]) -> bool
 
 /// Appends the errors of a file, if it is a source.
 fn push_file(alloc: Global, out: &mut Vec<u8>, file: Source<'_>) -> Result<(), NoMemory>
-    ensures { OnOk result (IsFileTold file.entry.dialect file.entry.name.now file.entry.text.now
-        out.old.items out.new.items) }
+    ensures { OnOk result (IsFileTold file.entry.dialect (title_seen file.entry.title)
+        file.entry.text.now out.old.items out.new.items) }
 {
     if is_linked(file.text) {
         return Ok(());
@@ -42,34 +44,42 @@ fn push_named(
     alloc: Global,
     out: &mut Vec<u8>,
     dialect: Dialect,
-    name: &[u8],
+    title: Title<'_>,
     text: &[u8],
 ) -> Result<(), NoMemory>
-    ensures { OnOk result
-        (IsFileTold dialect name.now text.now out.old.items out.new.items) }
+    ensures { OnOk result (IsFileTold dialect (title_seen title.entry) text.now
+        out.old.items out.new.items) }
 {
     let file = Source {
         dialect,
-        name,
+        title,
         text,
     };
     push_file(alloc, out, file)
 }
 
+/// The title of a file with a name.
+pub(crate) fn title_of<'a>(preludes: &'a [Prelude<'a>], name: &'a str) -> Title<'a>
+    ensures { title_seen result ≡ record {
+      preludes = preludes_seen preludes.entry.now;
+      name = name.entry.now;
+    } }
+{
+    let name = name.as_bytes();
+    Title { preludes, name }
+}
+
 /// The errors of all sources of a dialect among these files, in order.
 #[tactic(auto, using(crate::proofs::Telling::file_more))]
-pub(crate) fn errors_of(
-    alloc: Global,
-    dialect: Dialect,
-    names: &[&str],
-    texts: &[Vec<u8>],
-) -> Result<Vec<u8>, NoMemory>
-    ensures { IfOk result
-        (λ v. AreTold dialect (names_of names.now) (texts_seen texts.now) [] v.items) }
+pub(crate) fn errors_of(alloc: Global, files: Files<'_>) -> Result<Vec<u8>, NoMemory>
+    ensures { IfOk result (λ v. AreTold files.entry.dialect
+        (titles_of (preludes_seen files.entry.preludes.now) files.entry.names.now)
+        (texts_seen files.entry.texts.now) [] v.items) }
 {
     let mut out = Vec::new(alloc);
-    for i in 0..names.len().min(texts.len()) {
-        push_named(alloc, &mut out, dialect, names[i].as_bytes(), &texts[i])?;
+    for i in 0..files.names.len().min(files.texts.len()) {
+        let title = title_of(files.preludes, files.names[i]);
+        push_named(alloc, &mut out, files.dialect, title, &files.texts[i])?;
     }
     Ok(out)
 }

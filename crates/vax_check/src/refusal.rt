@@ -3,13 +3,15 @@
 ghost use Rattle.std.specs.Prelude.{◌≡◌, ◌++◌, IfOk, OnOk};
 ghost use Rattle.vax_check.specs.Linking.{first_spot, line_for, line_text, link_detail, link_text, link_words, lone_file, other_text, second_text, spot, twice_text, twice_words, undefined_text};
 ghost use Rattle.vax_check.specs.View.{file_seen, files_seen};
+ghost use Rattle.vax_prelude.specs.View.{title_seen};
 
 use crate::sources::{Role, those};
 use std::alloc::Global;
 use vax_asm_causes::{Sought, first_line};
-use vax_asm_errors::Source;
+use vax_asm_errors::{Source, Title};
 use vax_dialect::Dialect;
 use vax_outside::Text;
+use vax_prelude::told_in;
 use vax_space::NoMemory;
 
 /// What the linker found beside names, in words.
@@ -38,16 +40,19 @@ pub(crate) fn push(out: &mut Vec<u8>, bytes: &[u8]) -> Result<(), NoMemory>
     out.extend_from_slice(bytes).map_err(|_| NoMemory)
 }
 
-/// Appends a line's number behind a file's name, if it is known.
-fn push_line(out: &mut Vec<u8>, line: Option<usize>) -> Result<(), NoMemory>
-    ensures { OnOk result (out.new.items ≡ out.old.items ++ line_text line) }
+/// Appends the name of a file, and behind it the number of a line, if that is known.
+fn push_line(out: &mut Vec<u8>, title: Title<'_>, line: Option<usize>) -> Result<(), NoMemory>
+    ensures { OnOk result
+        (out.new.items ≡ out.old.items ++ line_text (title_seen title.entry) line) }
 {
     let Some(line) = line else {
-        return Ok(());
+        return push(out, title.name);
     };
+    let (name, number) = told_in(title, line);
     let mut text = Text::new();
     text.push(b":");
-    text.push_decimal(line as u64);
+    text.push_decimal(number as u64);
+    push(out, name)?;
     push(out, text.as_slice())
 }
 
@@ -89,9 +94,8 @@ fn push_spot(
     ensures { OnOk result (out.new.items
         ≡ out.old.items ++ spot role name.now (file_seen file.entry)) }
 {
-    push(out, file.name)?;
     let line = line_for(alloc, role, name, file.text)?;
-    push_line(out, line)
+    push_line(out, file.title, line)
 }
 
 /// Appends the place in the first of these files.
@@ -195,7 +199,7 @@ fn push_lone(out: &mut Vec<u8>, files: &[Source<'_>]) -> Result<(), NoMemory>
     let [file] = files else {
         return Ok(());
     };
-    push(out, file.name)?;
+    push(out, file.title.name)?;
     push(out, b": ")
 }
 

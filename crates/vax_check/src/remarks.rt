@@ -3,13 +3,14 @@
 ghost use Rattle.std.specs.Prelude.{OnOk};
 ghost use Rattle.vax_asm_causes.specs.View.{asked_by};
 ghost use Rattle.vax_check.specs.Told.{AreRemarked, IsFileRemarked};
-ghost use Rattle.vax_check.specs.View.{names_of};
+ghost use Rattle.vax_check.specs.View.{titles_of};
+ghost use Rattle.vax_prelude.specs.View.{preludes_seen, title_seen};
 ghost use Rattle.vax_program.specs.View.{texts as texts_seen};
 
-use crate::errors::is_linked;
+use crate::errors::{is_linked, title_of};
 use crate::text::Files;
 use std::alloc::Global;
-use vax_asm_errors::{Source, Wanted, push_remarks};
+use vax_asm_errors::{Source, Title, Wanted, push_remarks};
 use vax_dialect::Dialect;
 use vax_space::NoMemory;
 
@@ -21,7 +22,7 @@ fn push_file(
     wanted: Wanted<'_>,
 ) -> Result<(), NoMemory>
     ensures { OnOk result (IsFileRemarked (asked_by wanted.entry)
-        file.entry.name.now file.entry.text.now out.old.items out.new.items) }
+        (title_seen file.entry.title) file.entry.text.now out.old.items out.new.items) }
 {
     if is_linked(file.text) {
         return Ok(());
@@ -34,16 +35,16 @@ fn push_named(
     alloc: Global,
     out: &mut Vec<u8>,
     dialect: Dialect,
-    name: &[u8],
+    title: Title<'_>,
     text: &[u8],
     wanted: Wanted<'_>,
 ) -> Result<(), NoMemory>
     ensures { OnOk result (IsFileRemarked (asked_by wanted.entry)
-        name.now text.now out.old.items out.new.items) }
+        (title_seen title.entry) text.now out.old.items out.new.items) }
 {
     let file = Source {
         dialect,
-        name,
+        title,
         text,
     };
     push_file(alloc, out, file, wanted)
@@ -57,12 +58,13 @@ pub(crate) fn push_each(
     files: Files<'_>,
     wanted: Wanted<'_>,
 ) -> Result<(), NoMemory>
-    ensures { OnOk result (AreRemarked (asked_by wanted.entry) (names_of files.entry.names.now)
+    ensures { OnOk result (AreRemarked (asked_by wanted.entry)
+        (titles_of (preludes_seen files.entry.preludes.now) files.entry.names.now)
         (texts_seen files.entry.texts.now) out.old.items out.new.items) }
 {
     for i in 0..files.names.len().min(files.texts.len()) {
-        let name = files.names[i].as_bytes();
-        push_named(alloc, out, files.dialect, name, &files.texts[i], wanted)?;
+        let title = title_of(files.preludes, files.names[i]);
+        push_named(alloc, out, files.dialect, title, &files.texts[i], wanted)?;
     }
     Ok(())
 }

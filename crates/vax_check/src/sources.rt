@@ -4,13 +4,15 @@ ghost use Rattle.std.specs.Prelude.{◌≡◌, ◌++◌, ◌∷◌, [], IfOk, On
 ghost use Rattle.std.specs.List.{list_any};
 ghost use Rattle.std.specs.Str.{bytes_eq};
 ghost use Rattle.vax_check.specs.Linking.{files_of, has_part, plays, those};
-ghost use Rattle.vax_check.specs.View.{file_seen, files_seen, names_of, with_if};
+ghost use Rattle.vax_check.specs.View.{file_seen, files_seen, titles_of, with_if};
+ghost use Rattle.vax_prelude.specs.View.{preludes_seen, title_seen};
 ghost use Rattle.vax_program.specs.View.{texts as texts_seen};
 
-use crate::errors::is_linked;
+use crate::errors::{is_linked, title_of};
+use crate::text::Files;
 use std::alloc::Global;
 use vax_asm::{AsmError, assemble};
-use vax_asm_errors::Source;
+use vax_asm_errors::{Source, Title};
 use vax_dialect::Dialect;
 use vax_module::{Bytes, Module, Symbol};
 use vax_space::NoMemory;
@@ -91,44 +93,45 @@ fn add_if<'a>(all: &mut Vec<Source<'a>>, file: Source<'a>, wanted: bool) -> Resu
     Ok(())
 }
 
-/// Appends a file of a dialect with its name.
+/// Appends a file of a dialect with its title.
 fn add_named<'a>(
     all: &mut Vec<Source<'a>>,
     dialect: Dialect,
-    name: &'a [u8],
+    title: Title<'a>,
     text: &'a [u8],
 ) -> Result<(), NoMemory>
     ensures { OnOk result (files_seen all.new.items ≡ files_seen all.old.items ++ record {
-      name = name.entry.now;
+      title = title_seen title.entry;
       text = text.entry.now;
     } ∷ []) }
 {
     let source = Source {
         dialect,
-        name,
+        title,
         text,
     };
     all.push(source).map_err(|_| NoMemory)
 }
 
-/// The files, each with its name, in a dialect.
+/// The files, each with its title, in their dialect.
 #[tactic(auto, unfolding(crate::specs::Linking::files_of))]
-pub(crate) fn files_of<'a>(
-    alloc: Global,
-    dialect: Dialect,
-    names: &'a [&'a str],
-    texts: &'a [Vec<u8>],
-) -> Result<Vec<Source<'a>>, NoMemory>
+pub(crate) fn files_of<'a>(alloc: Global, files: Files<'a>) -> Result<Vec<Source<'a>>, NoMemory>
     ensures { IfOk result (λ v. files_seen v.items
-        ≡ files_of (names_of names.entry.now) (texts_seen texts.entry.now)) }
+        ≡ files_of (titles_of (preludes_seen files.entry.preludes.now) files.entry.names.now)
+        (texts_seen files.entry.texts.now)) }
 {
     let mut all = Vec::new(alloc);
-    let mut rest = texts;
-    for name in names {
+    let mut rest = files.texts;
+    for name in files.names {
         let [text, others @ ..] = rest else {
             return Ok(all);
         };
-        add_named(&mut all, dialect, name.as_bytes(), text)?;
+        add_named(
+            &mut all,
+            files.dialect,
+            title_of(files.preludes, name),
+            text,
+        )?;
         rest = others;
     }
     Ok(all)

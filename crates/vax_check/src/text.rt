@@ -5,7 +5,8 @@ ghost use Rattle.std.specs.Option.{option_map};
 ghost use Rattle.vax_asm_causes.specs.View.{asked_by};
 ghost use Rattle.vax_check.specs.Linking.{files_of, link_text};
 ghost use Rattle.vax_check.specs.Told.{AreErrorsOf, Tells, asked_of, asked_with};
-ghost use Rattle.vax_check.specs.View.{names_of};
+ghost use Rattle.vax_check.specs.View.{titles_of};
+ghost use Rattle.vax_prelude.specs.View.{preludes_seen};
 ghost use Rattle.vax_program.specs.View.{refusal_seen, texts};
 
 use crate::errors::errors_of;
@@ -14,16 +15,17 @@ use crate::refusal::{Found, link_text};
 use crate::remarks::push_each;
 use crate::sources::files_of;
 use std::alloc::Global;
-use vax_asm_errors::Wanted;
+use vax_asm_errors::{Prelude, Wanted};
 use vax_dialect::Dialect;
 use vax_program::Refusal;
 use vax_space::NoMemory;
 
-/// The files of a program: the dialect of its sources, their names and their bytes, one for each name; and whether it is one for the
-/// bare machine.
+/// The files of a program: the dialect of its sources, the preludes that stand before them, their names, their bytes with those of the preludes, one for each
+/// name; and whether it is one for the bare machine.
 #[derive(Clone, Copy)]
 pub struct Files<'a> {
     pub dialect: Dialect,
+    pub preludes: &'a [Prelude<'a>],
     pub names: &'a [&'a str],
     pub texts: &'a [Vec<u8>],
     pub bare: bool,
@@ -33,20 +35,22 @@ pub struct Files<'a> {
 fn link_error(alloc: Global, files: Files<'_>, found: Found<'_>) -> Result<Vec<u8>, NoMemory>
     ensures { IfOk result (λ v. v.items ≡ link_text files.entry.dialect
         found.entry.kind found.entry.name.now found.entry.address
-        (files_of (names_of files.entry.names.now) (texts files.entry.texts.now))) }
+        (files_of (titles_of (preludes_seen files.entry.preludes.now) files.entry.names.now)
+        (texts files.entry.texts.now))) }
 {
-    let all = files_of(alloc, files.dialect, files.names, files.texts)?;
+    let all = files_of(alloc, files)?;
     link_text(alloc, files.dialect, found, &all)
 }
 
 /// Why files give no program.
 fn errors_in(alloc: Global, files: Files<'_>, refusal: &Refusal) -> Result<Vec<u8>, NoMemory>
     ensures { IfOk result (λ v. AreErrorsOf files.entry.dialect
-        (names_of files.entry.names.now) (texts files.entry.texts.now) (refusal_seen refusal.now)
+        (titles_of (preludes_seen files.entry.preludes.now) files.entry.names.now)
+        (texts files.entry.texts.now) (refusal_seen refusal.now)
         v.items) }
 {
     match refusal {
-        Refusal::Source { .. } => errors_of(alloc, files.dialect, files.names, files.texts),
+        Refusal::Source { .. } => errors_of(alloc, files),
         Refusal::Link {
             kind,
             name,
@@ -94,7 +98,8 @@ pub fn text_of(
     refusal: Option<&Refusal>,
 ) -> Result<Vec<u8>, NoMemory>
     ensures { IfOk result (λ v. Tells files.entry.dialect files.entry.bare
-        (names_of files.entry.names.now) (texts files.entry.texts.now)
+        (titles_of (preludes_seen files.entry.preludes.now) files.entry.names.now)
+        (texts files.entry.texts.now)
         (option_map (λ r. refusal_seen r.now) refusal.entry) v.items) }
 {
     let mut out = match refusal {

@@ -20,6 +20,7 @@ fn tells(rt: &HostRuntime, row: Row<'_>) -> Result<bool, Fail> {
     texts.push(row.sources[1].as_bytes().to_vec(rt.alloc())?)?;
     let files = Files {
         dialect: Dialect::Vax,
+        preludes: &[],
         names: &["a.mar", "b.mar"],
         texts: &texts,
         bare: false,

@@ -1,6 +1,6 @@
 //! The remarks on sources as text.
 use std::test::Fail;
-use vax_asm_errors::{Source, Wanted, push_remarks};
+use vax_asm_errors::{Source, Title, Wanted, push_remarks};
 use vax_dialect::Dialect;
 
 /// A source, what is asked of it, and what is told.
@@ -15,9 +15,13 @@ struct Row<'a> {
 
 fn tells(rt: &HostRuntime, row: Row<'_>) -> Result<bool, Fail> {
     let mut out = Vec::new(rt.alloc());
+    let title = Title {
+        preludes: &[],
+        name: b"a.mar",
+    };
     let source = Source {
         dialect: Dialect::Vax,
-        name: b"a.mar",
+        title,
         text: row.source.as_bytes(),
     };
     let wanted = Wanted {
@@ -151,9 +155,13 @@ fn a_hundred_remarks_are_told(rt: HostRuntime) -> Result<(), Fail> {
     for _ in 0..40u32 {
         text.extend_from_slice(b" ADDL3 R16,R17,R18\n")?;
     }
+    let title = Title {
+        preludes: &[],
+        name: b"a.mar",
+    };
     let source = Source {
         dialect: Dialect::Vax,
-        name: b"a.mar",
+        title,
         text: &text,
     };
     let wanted = Wanted {

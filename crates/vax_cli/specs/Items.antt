@@ -1,8 +1,8 @@
 -- Names and options in the words behind a command.
-use Rattle.std.specs.Prelude.{ℕ, Bool, true, false, not, nat_lt, ◌&&◌, ◌==◌, List, [], ◌∷◌, length, Option, None, Some, is_none, if◌then◌else◌}
+use Rattle.std.specs.Prelude.{ℕ, Bool, true, false, not, nat_lt, ◌&&◌, ◌||◌, ◌==◌, List, [], ◌∷◌, length, Option, None, Some, is_none, if◌then◌else◌}
 use Rattle.std.specs.Option.{option_map, option_and_then}
 use Rattle.std.specs.List.{before_first, after_first, position_or_len}
-use Rattle.vax_cli.specs.Table.{Text, key_of, is_same}
+use Rattle.vax_cli.specs.Table.{Text, key_of, is_same, may_repeat}
 use Rattle.vax_cli.specs.declared.table.Key.{Key}
 
 -- neither empty nor beginning with a dash
@@ -57,8 +57,14 @@ value wanted [] = None
 value wanted (name word ∷ items) = value wanted items
 value wanted (setting key word ∷ items) = if is_same key wanted then Some word else value wanted items
 
--- each option is there at most once
+-- the values of an option that may stand there several times, in order
+abbrev pub values : Key → List Item → List Text
+values wanted [] = []
+values wanted (name word ∷ items) = values wanted items
+values wanted (setting key word ∷ items) = if is_same key wanted then word ∷ values wanted items else values wanted items
+
+-- each option is there at most once, but for one that may stand there several times
 abbrev pub are_distinct : List Item → Bool
 are_distinct [] = true
 are_distinct (name word ∷ items) = are_distinct items
-are_distinct (setting key word ∷ items) = is_none (value key items) && are_distinct items
+are_distinct (setting key word ∷ items) = (may_repeat key || is_none (value key items)) && are_distinct items

@@ -13,6 +13,7 @@ use Rattle.vax_cli.specs.Jobs as jobs_words
 use Rattle.vax_cli.specs.declared.jobs.JobsOptions.{JobsOptions}
 use Rattle.vax_cli.specs.declared.command.Options.{Options}
 use Rattle.vax_cli.specs.declared.command.Tracing.{Tracing}
+use Rattle.vax_cli.specs.declared.command.Asked.{Asked}
 use Rattle.vax_cli.specs.declared.command.Command.{Command}
 use Rattle.vax_cli.specs.declared.command.Command.TheVariants as command
 use Rattle.vax_cli.specs.declared.items.Item.{Item}
@@ -74,6 +75,9 @@ said (command.Work seed size o) = work seed size (options o)
 said (command.Vectors request) = vectors request
 said command.About = about
 
+abbrev pub asked : Asked → words.Asked
+asked a = record { macros = names_of a.macros.items; said = said a.command }
+
 -- it has 1 to 4,096 bytes
 pub record IsDump (d : DumpItem) : Type 0 where
   pub some : 1 ≤ d.count
@@ -121,3 +125,7 @@ IsWithin (jobs files o) = AreFiles files × AreShared (length files) o
 IsWithin (work seed size o) = (1 ≤ size) × (size ≤ 5000) × AreWithin o
 IsWithin (vectors request) = Unit {0}
 IsWithin about = Unit {0}
+
+-- what a command says is within its bounds, and it has at most four files of macros
+abbrev pub IsAskedWithin : words.Asked → Type 0
+IsAskedWithin a = IsWithin a.said × (length a.macros ≤ 4)

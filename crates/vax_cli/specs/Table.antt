@@ -41,6 +41,7 @@ key_name key.Dump = codes "--dump"
 key_name key.Record = codes "--record"
 key_name key.Base = codes "--base"
 key_name key.Dialect = codes "--dialect"
+key_name key.Macros = codes "--macros"
 key_name key.Format = codes "--format"
 key_name key.Script = codes "--script"
 key_name key.Seed = codes "--seed"
@@ -59,18 +60,18 @@ key_name key.Prompt = codes "--prompt"
 
 -- the options that a command takes
 abbrev pub keys_of : Verb → List Key
-keys_of verb.Bare = key.Dialect ∷ key.Input ∷ key.Schedule ∷ key.Frames ∷ key.Steps ∷ key.Turns ∷ key.Dump ∷ key.Record ∷ key.Strict ∷ []
-keys_of verb.Run = key.Dialect ∷ key.Input ∷ key.System ∷ key.Schedule ∷ key.Frames ∷ key.Steps ∷ key.Turns ∷ key.Dump ∷ key.Record ∷ key.Strict ∷ []
-keys_of verb.Build = key.Base ∷ key.Dialect ∷ key.Format ∷ []
-keys_of verb.List = key.Base ∷ key.Dialect ∷ []
+keys_of verb.Bare = key.Dialect ∷ key.Macros ∷ key.Input ∷ key.Schedule ∷ key.Frames ∷ key.Steps ∷ key.Turns ∷ key.Dump ∷ key.Record ∷ key.Strict ∷ []
+keys_of verb.Run = key.Dialect ∷ key.Macros ∷ key.Input ∷ key.System ∷ key.Schedule ∷ key.Frames ∷ key.Steps ∷ key.Turns ∷ key.Dump ∷ key.Record ∷ key.Strict ∷ []
+keys_of verb.Build = key.Base ∷ key.Dialect ∷ key.Macros ∷ key.Format ∷ []
+keys_of verb.List = key.Base ∷ key.Dialect ∷ key.Macros ∷ []
 keys_of verb.Listing = key.Base ∷ key.Dialect ∷ []
-keys_of verb.Check = key.Base ∷ key.Dialect ∷ key.System ∷ []
-keys_of verb.Console = key.Script ∷ key.Base ∷ key.Dialect ∷ key.Input ∷ key.System ∷ key.Schedule ∷ key.Frames ∷ key.Steps ∷ key.Turns ∷ []
-keys_of verb.Debug = key.Base ∷ key.Dialect ∷ key.Input ∷ key.System ∷ key.Schedule ∷ key.Frames ∷ key.Steps ∷ key.Turns ∷ key.Prompt ∷ []
-keys_of verb.Trace = key.Base ∷ key.Dialect ∷ key.Input ∷ key.System ∷ key.Schedule ∷ key.Frames ∷ key.Steps ∷ key.Turns ∷ key.Dump ∷ key.Break ∷ key.Watch ∷ key.Text ∷ []
-keys_of verb.Save = key.Base ∷ key.Dialect ∷ key.Input ∷ key.System ∷ key.Schedule ∷ key.Frames ∷ key.Steps ∷ key.Turns ∷ []
+keys_of verb.Check = key.Base ∷ key.Dialect ∷ key.Macros ∷ key.System ∷ []
+keys_of verb.Console = key.Script ∷ key.Base ∷ key.Dialect ∷ key.Macros ∷ key.Input ∷ key.System ∷ key.Schedule ∷ key.Frames ∷ key.Steps ∷ key.Turns ∷ []
+keys_of verb.Debug = key.Base ∷ key.Dialect ∷ key.Macros ∷ key.Input ∷ key.System ∷ key.Schedule ∷ key.Frames ∷ key.Steps ∷ key.Turns ∷ key.Prompt ∷ []
+keys_of verb.Trace = key.Base ∷ key.Dialect ∷ key.Macros ∷ key.Input ∷ key.System ∷ key.Schedule ∷ key.Frames ∷ key.Steps ∷ key.Turns ∷ key.Dump ∷ key.Break ∷ key.Watch ∷ key.Text ∷ []
+keys_of verb.Save = key.Base ∷ key.Dialect ∷ key.Macros ∷ key.Input ∷ key.System ∷ key.Schedule ∷ key.Frames ∷ key.Steps ∷ key.Turns ∷ []
 keys_of verb.Resume = key.Schedule ∷ key.Frames ∷ key.Steps ∷ key.Turns ∷ key.Dump ∷ []
-keys_of verb.Jobs = key.Dialect ∷ key.Order ∷ key.Pool ∷ key.Steps ∷ key.Turns ∷ key.Input ∷ []
+keys_of verb.Jobs = key.Dialect ∷ key.Macros ∷ key.Order ∷ key.Pool ∷ key.Steps ∷ key.Turns ∷ key.Input ∷ []
 keys_of verb.Work = key.Dialect ∷ key.Seed ∷ key.Size ∷ key.Schedule ∷ key.Frames ∷ key.Steps ∷ key.Turns ∷ key.Dump ∷ key.Record ∷ key.Strict ∷ []
 keys_of verb.Vectors = key.Opcode ∷ key.Count ∷ key.Seed ∷ key.Absent ∷ key.Mode ∷ []
 
@@ -116,6 +117,11 @@ place key.Order = 21
 place key.Pool = 22
 place key.Dialect = 23
 place key.Prompt = 24
+place key.Macros = 25
 
 abbrev pub is_same : Key → Key → Bool
 is_same a b = place a == place b
+
+-- one that may stand there several times
+abbrev pub may_repeat : Key → Bool
+may_repeat k = is_same k key.Macros

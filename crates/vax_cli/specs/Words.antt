@@ -1,10 +1,10 @@
 -- Which words name a command, and what they say.
-use Rattle.std.specs.Prelude.{ℕ, Bool, true, false, not, ◌||◌, ◌&&◌, List, [], ◌∷◌, length, codes, Option, None, Some, is_some, if◌then◌else◌}
+use Rattle.std.specs.Prelude.{ℕ, Bool, true, false, not, nat_le, ◌||◌, ◌&&◌, List, [], ◌∷◌, length, codes, Option, None, Some, is_some, if◌then◌else◌}
 use Rattle.std.specs.Option.{option_map, option_and_then}
 use Rattle.std.specs.Str.{bytes_eq}
 use Rattle.vax_cli.specs.Table.{Text as Word, keys_of, takes_files, verb_of}
 use Rattle.vax_cli.specs.Jobs.{JobsOptions, pool_of}
-use Rattle.vax_cli.specs.Items.{Item, are_distinct, items_from, names, value}
+use Rattle.vax_cli.specs.Items.{Item, are_distinct, items_from, names, value, values}
 use Rattle.vax_cli.specs.Tracing.{Tracing, breaks_of}
 use Rattle.vax_cli.specs.Values.{base_of, dialect_of, dumps_of, format_of, frames_of, seed_of, size_of, steps_of, strictness, switch_of, turns_of}
 use Rattle.vax_cli.specs.declared.command.Base.{Base}
@@ -55,6 +55,11 @@ pub data Said : Type 0 where
   work : ℕ → ℕ → Options → Said
   vectors : VectorRequest → Said
   about : Said
+
+-- a command, and the files of macros that are read before each of its sources
+pub record Asked : Type 0 where
+  pub macros : List Text
+  pub said : Said
 
 -- what the options of a run say, whose exit status may tell so much of its end
 abbrev pub options_of : Strictness → List Item → Option Options
@@ -179,9 +184,13 @@ said_of verb.Jobs items = jobs_of items
 said_of verb.Work items = work_of items
 said_of verb.Vectors items = vectors_of items
 
--- a command takes so many files as it is given, and each option at most once
-abbrev pub checked : Verb → List Item → Option Said
-checked verb items = if takes_files verb (length (names items)) && are_distinct items then said_of verb items else None
+-- a command takes so many files as it is given, each option at most once, and at most four files of macros
+abbrev pub is_plain : Verb → List Item → Bool
+is_plain verb items = (takes_files verb (length (names items)) && are_distinct items) && nat_le (length (values key.Macros items)) 4
+
+abbrev pub checked : Verb → List Item → Option Asked
+checked verb items =
+    if is_plain verb items then option_map (λ said. record { macros = values key.Macros items; said = said }) (said_of verb items) else None
 
 abbrev pub is_help : Text → Bool
 is_help word = bytes_eq word (codes "--help")
@@ -199,14 +208,18 @@ abbrev pub asks_about : List Text → Bool
 asks_about (word ∷ []) = is_help word || is_version word
 asks_about words = false
 
--- what stands behind a command: names and options in any order
-abbrev pub behind : Verb → List Text → Option Said
-behind verb words = if asks_help words then Some about else option_and_then (checked verb) (items_from (keys_of verb) None words)
+-- a text about the program itself
+abbrev pub plain_about : Asked
+plain_about = record { macros = []; said = about }
 
-abbrev pub named : List Text → Option Said
+-- what stands behind a command: names and options in any order
+abbrev pub behind : Verb → List Text → Option Asked
+behind verb words = if asks_help words then Some plain_about else option_and_then (checked verb) (items_from (keys_of verb) None words)
+
+abbrev pub named : List Text → Option Asked
 named [] = None
 named (word ∷ words) = option_and_then (λ verb. behind verb words) (verb_of word)
 
 -- the command that words name
-abbrev pub command_of : List Text → Option Said
-command_of words = if asks_about words then Some about else named words
+abbrev pub command_of : List Text → Option Asked
+command_of words = if asks_about words then Some plain_about else named words

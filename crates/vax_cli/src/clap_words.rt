@@ -21,7 +21,13 @@ fn option<'a>(alloc: Global, key: Key) -> Arg<'a> {
     let name: &'a str = key.name();
     let long = name.strip_prefix("--").unwrap_or(name);
     let text = option_text(key);
+    let action = if key.may_repeat() {
+        ArgAction::Append
+    } else {
+        ArgAction::Set
+    };
     Arg::new(alloc, name)
+        .action(action)
         .long(long)
         .value_name(text.value)
         .required(matches!(key, Key::Script | Key::Opcode | Key::Count))

@@ -13,6 +13,17 @@ pub type Dumps = ArrayVec<DumpItem, 16>;
 /// Addresses before which a traced run stops: at most 16.
 pub type Breaks = ArrayVec<u32, 16>;
 
+/// The names of the files that stand before each source, in order: at most 4.
+pub type Macros<'a> = ArrayVec<&'a str, 4>;
+
+/// A command, and the preludes of its sources.
+#[derive(PartialEq, Eq, Drop)]
+pub struct Asked<'a> {
+    pub command: Command<'a>,
+    /// `--macros NAME`, up to four times: the files that are read before each source.
+    pub macros: Macros<'a>,
+}
+
 /// What the words ask for.
 #[derive(PartialEq, Eq, Drop)]
 pub enum Command<'a> {

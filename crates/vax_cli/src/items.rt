@@ -1,16 +1,16 @@
 //! Names and options in the words behind a command.
 ghost use Rattle.std.specs.Prelude.{◌≡◌, ◌<◌, MatchOption, None, length};
 ghost use Rattle.std.specs.Option.{option_and_then, option_copied, option_map};
-ghost use Rattle.vax_cli.specs.Items.{are_distinct, is_plain, items_from, names, read_word, setting_of, value};
+ghost use Rattle.vax_cli.specs.Items.{are_distinct, is_plain, items_from, names, read_word, setting_of, value, values};
 ghost use Rattle.vax_cli.specs.Values.{at_most};
 ghost use Rattle.vax_cli.specs.Said.{items_of, item_of, names_of, reading_of, texts};
 
-use crate::command::Names;
+use crate::command::{Macros, Names};
 use crate::table::{Key, key_of};
 use arrayvec::ArrayVec;
 
-/// The items behind a command: at most 8 names, and each of the options, at most 25, once.
-pub(crate) type Items<'a> = ArrayVec<Item<'a>, 33>;
+/// The items behind a command: at most 8 names, each of the options, at most 25, once, and 4 preludes.
+pub(crate) type Items<'a> = ArrayVec<Item<'a>, 37>;
 
 /// A name, or an option with its value.
 #[derive(Clone, Copy)]
@@ -69,11 +69,11 @@ fn read_word<'a>(keys: &[Key], pending: Option<Key>, word: &'a str) -> Option<Re
     }
 }
 
-/// The items that words say, names and options in any order, if there are at most 33.
+/// The items that words say, names and options in any order, if there are at most 37.
 #[tactic(auto, using(crate::proofs::Prefixes::few, crate::proofs::Prefixes::too_many, crate::proofs::Prefixes::cut_off))]
 pub(crate) fn read_items<'a>(keys: &[Key], words: &'a [String]) -> Option<Items<'a>>
     ensures { option_map (λ v. items_of v.items) result
-        ≡ option_and_then (at_most 33) (items_from keys.now None (texts words.entry.now)) }
+        ≡ option_and_then (at_most 37) (items_from keys.now None (texts words.entry.now)) }
 {
     let mut items = ArrayVec::new();
     let mut pending = None;
@@ -120,14 +120,30 @@ pub(crate) fn value_in<'a>(wanted: Key, items: &[Item<'a>]) -> Option<&'a str>
     None
 }
 
-/// Each option is there at most once.
+/// The values of an option that may stand there several times, in order, if there are at most four.
+pub(crate) fn values_in<'a>(wanted: Key, items: &[Item<'a>]) -> Option<Macros<'a>>
+    ensures { MatchOption result (4 < length (values wanted (items_of items.now)))
+        (λ v. names_of v.items ≡ values wanted (items_of items.now)) }
+{
+    let mut all = ArrayVec::new();
+    for item in items {
+        if let Item::Setting(key, value) = *item {
+            if key.is(wanted) {
+                all.try_push(value).ok()?;
+            }
+        }
+    }
+    Some(all)
+}
+
+/// Each option is there at most once, but for one that may stand there several times.
 pub(crate) fn are_distinct(items: &[Item]) -> bool
     ensures { result ≡ are_distinct (items_of items.now) }
 {
     let mut rest = items;
     while let [item, behind @ ..] = rest {
         if let Item::Setting(key, _) = *item {
-            if value_in(key, behind).is_some() {
+            if !key.may_repeat() && value_in(key, behind).is_some() {
                 return false;
             }
         }

@@ -19,7 +19,8 @@ mod values;
 mod vectors;
 
 pub use command::{
-    Base, Breaks, Command, DumpItem, Dumps, Format, Names, Options, Strictness, Target, Tracing,
+    Asked, Base, Breaks, Command, DumpItem, Dumps, Format, Macros, Names, Options, Strictness,
+    Target, Tracing,
 };
 pub use jobs::JobsOptions;
 pub use read::{WordsError, about, command_of};

@@ -59,6 +59,11 @@ const DIALECT: OptionText<'static> = OptionText {
     about: "The dialect of the sources, the smaller one or that of the manual; vax where it isn't given",
 };
 
+const MACROS: OptionText<'static> = OptionText {
+    value: "FILE",
+    about: "A source that is read before each source, for macros that several share; up to four times",
+};
+
 const FORMAT: OptionText<'static> = OptionText {
     value: "1|2",
     about: "The version of the image's format; 1 where it isn't given",
@@ -149,6 +154,7 @@ pub(crate) fn option_text<'a>(key: Key) -> OptionText<'a> {
         Key::Record => RECORD,
         Key::Base => BASE,
         Key::Dialect => DIALECT,
+        Key::Macros => MACROS,
         Key::Format => FORMAT,
         Key::Script => SCRIPT,
         Key::Seed => SEED,

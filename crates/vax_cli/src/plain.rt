@@ -3,14 +3,13 @@ ghost use Rattle.std.specs.Prelude.{◌≡◌, IfSome, None, length, true};
 ghost use Rattle.std.specs.Option.{option_and_then, option_copied, option_map};
 ghost use Rattle.vax_cli.specs.Table.{keys_of, takes_files};
 ghost use Rattle.vax_cli.specs.Items.{items_from, names};
-ghost use Rattle.vax_cli.specs.Words.{asks_about, asks_help, behind, build_of, check_of, checked, command_of, console_of, debug_of, is_session, may_have_system, options_of, resume_of, said_of, save_of, target_of, trace_of, vectors_of, work_of};
-ghost use Rattle.vax_cli.specs.declared.command.Command.TheVariants.{About};
+ghost use Rattle.vax_cli.specs.Words.{asks_about, asks_help, behind, build_of, check_of, checked, command_of, console_of, debug_of, is_session, may_have_system, options_of, plain_about, resume_of, said_of, save_of, target_of, trace_of, vectors_of, work_of};
 ghost use Rattle.vax_cli.specs.declared.command.Strictness.TheVariants.{Halt};
-ghost use Rattle.vax_cli.specs.Said.{AreFiles, AreWithin, IsWithin, items_of, names_of, options, said, texts};
+ghost use Rattle.vax_cli.specs.Said.{AreFiles, AreWithin, IsAskedWithin, IsWithin, asked, items_of, names_of, options, said, texts};
 ghost use Rattle.vax_cli.specs.Words.{jobs_of};
 
-use crate::command::{Base, Command, Names, Options, Strictness, Target, Tracing};
-use crate::items::{Item, Items, are_distinct, names_in, read_items, value_in};
+use crate::command::{Asked, Base, Command, Names, Options, Strictness, Target, Tracing};
+use crate::items::{Item, Items, are_distinct, names_in, read_items, value_in, values_in};
 use crate::jobs::{JobsOptions, pool_of};
 use crate::table::{Key, Verb, verb_of};
 use crate::values::{
@@ -18,6 +17,7 @@ use crate::values::{
     strictness, switch_of, turns_of,
 };
 use crate::vectors::{VectorWords, request_of};
+use arrayvec::ArrayVec;
 
 /// What the options of a run say, whose exit status may tell so much of its end.
 fn options_of<'a>(most: Strictness, items: &[Item<'a>]) -> Option<Options<'a>>
@@ -294,16 +294,18 @@ fn said_of<'a>(verb: Verb, files: Names<'a>, items: &[Item<'a>]) -> Option<Comma
     }
 }
 
-/// What a command's items say: it takes so many files as it is given, and each option at most once.
-fn checked<'a>(verb: Verb, items: &[Item<'a>]) -> Option<Command<'a>>
-    ensures said { option_map said result ≡ checked verb (items_of items.now) }
-    ensures within { IfSome result (λ c. IsWithin (said c)) }
+/// What a command's items say: it takes so many files as it is given, each option at most once, and at most four files of macros.
+fn checked<'a>(verb: Verb, items: &[Item<'a>]) -> Option<Asked<'a>>
+    ensures said { option_map asked result ≡ checked verb (items_of items.now) }
+    ensures within { IfSome result (λ a. IsAskedWithin (asked a)) }
 {
     let files = names_in(items)?;
     if !verb.takes_files(files.len()) || !are_distinct(items) {
         return None;
     }
-    said_of(verb, files, items)
+    let macros = values_in(Key::Macros, items)?;
+    let command = said_of(verb, files, items)?;
+    Some(Asked { command, macros })
 }
 
 /// One word, `--help`.
@@ -326,10 +328,10 @@ fn asks_about(words: &[String]) -> bool
     }
 }
 
-/// A command, and the items behind its word that say it.
+/// A command with its preludes, and the items behind its word that say it.
 #[derive(Drop)]
 pub(crate) struct Plain<'a> {
-    pub(crate) command: Command<'a>,
+    pub(crate) asked: Asked<'a>,
     pub(crate) said: Option<Said<'a>>,
 }
 
@@ -343,31 +345,35 @@ pub(crate) struct Said<'a> {
 /// What names and options say, in any order.
 #[tactic(auto, using(crate::proofs::Counted::few_checked, crate::proofs::Counted::none_checked))]
 fn read_command<'a>(verb: Verb, words: &'a [String]) -> Option<Plain<'a>>
-    ensures said { option_map (λ p. said p.command) result
+    ensures said { option_map (λ p. asked p.asked) result
         ≡ option_and_then (checked verb) (items_from (keys_of verb) None (texts words.entry.now)) }
-    ensures within { IfSome result (λ p. IsWithin (said p.command)) }
+    ensures within { IfSome result (λ p. IsAskedWithin (asked p.asked)) }
 {
     let items = read_items(verb.keys(), words)?;
-    let command = checked(verb, &items)?;
+    let asked = checked(verb, &items)?;
     let said = Some(Said { verb, items });
-    Some(Plain { command, said })
+    Some(Plain { asked, said })
 }
 
 /// The command that asks for a text about the program.
 fn about<'a>() -> Plain<'a>
-    ensures { result ≡ record { command = About; said = None } }
+    ensures about { asked result.asked ≡ plain_about }
+    ensures none { result.said ≡ None }
 {
     Plain {
-        command: Command::About,
+        asked: Asked {
+            command: Command::About,
+            macros: ArrayVec::new(),
+        },
         said: None,
     }
 }
 
 /// What stands behind a command.
 fn behind<'a>(verb: Verb, words: &'a [String]) -> Option<Plain<'a>>
-    ensures said { option_map (λ p. said p.command) result
+    ensures said { option_map (λ p. asked p.asked) result
         ≡ behind verb (texts words.entry.now) }
-    ensures within { IfSome result (λ p. IsWithin (said p.command)) }
+    ensures within { IfSome result (λ p. IsAskedWithin (asked p.asked)) }
 {
     if asks_help(words) {
         return Some(about());
@@ -377,8 +383,8 @@ fn behind<'a>(verb: Verb, words: &'a [String]) -> Option<Plain<'a>>
 
 /// The command that plain words name.
 pub(crate) fn plain_command<'a>(words: &'a [String]) -> Option<Plain<'a>>
-    ensures said { option_map (λ p. said p.command) result ≡ command_of (texts words.entry.now) }
-    ensures within { IfSome result (λ p. IsWithin (said p.command)) }
+    ensures said { option_map (λ p. asked p.asked) result ≡ command_of (texts words.entry.now) }
+    ensures within { IfSome result (λ p. IsAskedWithin (asked p.asked)) }
 {
     if asks_about(words) {
         return Some(about());

@@ -1,11 +1,11 @@
 //! Words, as they were checked and as `clap` reads them.
 ghost use Rattle.std.specs.Prelude.{◌≡◌, IfOk, IsErrOf, None, Some};
 ghost use Rattle.vax_cli.specs.Words.{command_of as said_of};
-ghost use Rattle.vax_cli.specs.Said.{IsWithin, said, texts};
+ghost use Rattle.vax_cli.specs.Said.{IsAskedWithin, asked, texts};
 
 use crate::clap_words::{FILES, read};
-use crate::command::Command;
-use crate::items::{names_in, value_in};
+use crate::command::Asked;
+use crate::items::{names_in, value_in, values_in};
 use crate::plain::{Said, plain_command};
 use clap::error::ErrorKind;
 use std::alloc::Global;
@@ -32,17 +32,22 @@ fn reads_alike(alloc: Global, words: &[String], said: &Said) -> Option<bool> {
         return Some(false);
     }
     for key in said.verb.keys() {
-        if found.get_str(key.name()) != value_in(*key, &said.items) {
+        if key.may_repeat() {
+            let values = values_in(*key, &said.items)?;
+            if found.get_strs(key.name()).unwrap_or(&[]) != values.as_slice() {
+                return Some(false);
+            }
+        } else if found.get_str(key.name()) != value_in(*key, &said.items) {
             return Some(false);
         }
     }
     Some(true)
 }
 
-/// The command that the words name.
-pub fn command_of<'a>(alloc: Global, words: &'a [String]) -> Result<Command<'a>, WordsError>
-    ensures ok { IfOk result (λ c. said_of (texts words.entry.now) ≡ Some (said c)) }
-    ensures within { IfOk result (λ c. IsWithin (said c)) }
+/// The command that the words name, and the files that are read before each of its sources.
+pub fn command_of<'a>(alloc: Global, words: &'a [String]) -> Result<Asked<'a>, WordsError>
+    ensures ok { IfOk result (λ c. said_of (texts words.entry.now) ≡ Some (asked c)) }
+    ensures within { IfOk result (λ c. IsAskedWithin (asked c)) }
     ensures usage { IsErrOf result WordsError.Usage → said_of (texts words.entry.now) ≡ None }
     ensures not_plain { said_of (texts words.entry.now) ≡ None → IsErrOf result WordsError.Usage }
 {
@@ -50,10 +55,10 @@ pub fn command_of<'a>(alloc: Global, words: &'a [String]) -> Result<Command<'a>,
         return Err(WordsError::Usage);
     };
     let Some(said) = &plain.said else {
-        return Ok(plain.command);
+        return Ok(plain.asked);
     };
     match reads_alike(alloc, words, said) {
-        Some(true) => Ok(plain.command),
+        Some(true) => Ok(plain.asked),
         _ => Err(WordsError::NoMemory),
     }
 }

@@ -1,6 +1,6 @@
 //! The table of commands and their options.
 ghost use Rattle.std.specs.Prelude.{◌≡◌};
-ghost use Rattle.vax_cli.specs.Table.{is_same, key_name, key_of, keys_of, takes_files, verb_name, verb_of};
+ghost use Rattle.vax_cli.specs.Table.{is_same, key_name, key_of, keys_of, may_repeat, takes_files, verb_name, verb_of};
 
 /// A command.
 #[derive(Clone, Copy, PartialEq, Eq)]
@@ -34,6 +34,7 @@ pub(crate) enum Key {
     Record,
     Base,
     Dialect,
+    Macros,
     Format,
     Script,
     Seed,
@@ -72,6 +73,7 @@ pub(crate) const VERBS: [Verb; 14] = [
 // The options of each command.
 const BARE_KEYS: &[Key] = &[
     Key::Dialect,
+    Key::Macros,
     Key::Input,
     Key::Schedule,
     Key::Frames,
@@ -84,6 +86,7 @@ const BARE_KEYS: &[Key] = &[
 
 const RUN_KEYS: &[Key] = &[
     Key::Dialect,
+    Key::Macros,
     Key::Input,
     Key::System,
     Key::Schedule,
@@ -95,16 +98,19 @@ const RUN_KEYS: &[Key] = &[
     Key::Strict,
 ];
 
-const BUILD_KEYS: &[Key] = &[Key::Base, Key::Dialect, Key::Format];
+const BUILD_KEYS: &[Key] = &[Key::Base, Key::Dialect, Key::Macros, Key::Format];
+
+const LIST_KEYS: &[Key] = &[Key::Base, Key::Dialect, Key::Macros];
 
 const LISTING_KEYS: &[Key] = &[Key::Base, Key::Dialect];
 
-const CHECK_KEYS: &[Key] = &[Key::Base, Key::Dialect, Key::System];
+const CHECK_KEYS: &[Key] = &[Key::Base, Key::Dialect, Key::Macros, Key::System];
 
 const CONSOLE_KEYS: &[Key] = &[
     Key::Script,
     Key::Base,
     Key::Dialect,
+    Key::Macros,
     Key::Input,
     Key::System,
     Key::Schedule,
@@ -116,6 +122,7 @@ const CONSOLE_KEYS: &[Key] = &[
 const DEBUG_KEYS: &[Key] = &[
     Key::Base,
     Key::Dialect,
+    Key::Macros,
     Key::Input,
     Key::System,
     Key::Schedule,
@@ -128,6 +135,7 @@ const DEBUG_KEYS: &[Key] = &[
 const TRACE_KEYS: &[Key] = &[
     Key::Base,
     Key::Dialect,
+    Key::Macros,
     Key::Input,
     Key::System,
     Key::Schedule,
@@ -143,6 +151,7 @@ const TRACE_KEYS: &[Key] = &[
 const SAVE_KEYS: &[Key] = &[
     Key::Base,
     Key::Dialect,
+    Key::Macros,
     Key::Input,
     Key::System,
     Key::Schedule,
@@ -161,6 +170,7 @@ const RESUME_KEYS: &[Key] = &[
 
 const JOBS_KEYS: &[Key] = &[
     Key::Dialect,
+    Key::Macros,
     Key::Order,
     Key::Pool,
     Key::Steps,
@@ -214,7 +224,8 @@ impl Verb {
             Verb::Bare => BARE_KEYS,
             Verb::Run => RUN_KEYS,
             Verb::Build => BUILD_KEYS,
-            Verb::List | Verb::Listing => LISTING_KEYS,
+            Verb::List => LIST_KEYS,
+            Verb::Listing => LISTING_KEYS,
             Verb::Check => CHECK_KEYS,
             Verb::Console => CONSOLE_KEYS,
             Verb::Debug => DEBUG_KEYS,
@@ -265,6 +276,7 @@ impl Key {
             Key::Record => "--record",
             Key::Base => "--base",
             Key::Dialect => "--dialect",
+            Key::Macros => "--macros",
             Key::Format => "--format",
             Key::Script => "--script",
             Key::Seed => "--seed",
@@ -281,6 +293,13 @@ impl Key {
             Key::Pool => "--pool",
             Key::Prompt => "--prompt",
         }
+    }
+
+    /// It may stand there several times.
+    pub(crate) fn may_repeat(self) -> bool
+        ensures { result ≡ may_repeat self }
+    {
+        self == Key::Macros
     }
 
     /// It is the same option.

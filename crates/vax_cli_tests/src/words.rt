@@ -1,8 +1,8 @@
 //! Words that are plain, and words that aren't.
 use std::test::Fail;
 use vax_cli::{
-    Base, Command, DumpItem, Dumps, Format, JobsOptions, Names, Options, Strictness, Target,
-    WordsError, about, command_of,
+    Asked, Base, Command, DumpItem, Dumps, Format, JobsOptions, Macros, Names, Options, Strictness,
+    Target, WordsError, about, command_of,
 };
 use vax_dialect::Dialect;
 
@@ -23,6 +23,14 @@ fn names<'a>(all: &[&'a str]) -> Names<'a> {
         let _ = names.try_push(*name);
     }
     names
+}
+
+/// A command whose sources have nothing before them.
+fn alone<'a>(command: Command<'a>) -> Asked<'a> {
+    Asked {
+        command,
+        macros: Macros::new(),
+    }
 }
 
 fn dumps(all: &[DumpItem]) -> Dumps {
@@ -135,7 +143,38 @@ fn reads_options(rt: HostRuntime) -> Result<(), Fail> {
             files: names(&["A"]),
             options,
         };
-        assert!(rt; command_of(rt.alloc(), all.as_slice()) == Ok(bare), "{row}");
+        assert!(rt;
+            command_of(rt.alloc(), all.as_slice()) == Ok(alone(bare)),
+            "{row}"
+        );
+    }
+    Ok(())
+}
+
+/// The files of macros of each command that joins sources, in their order; clap reads them all.
+#[test]
+fn macros_stand_before_each_source(rt: HostRuntime) -> Result<(), Fail> {
+    let rows: &[(&str, &[&str])] = &[
+        ("run A --macros M.MAR", &["M.MAR"]),
+        ("bare --macros=M A --macros N", &["M", "N"]),
+        (
+            "build --macros 1 A --macros 2 B --macros 3 --macros 4",
+            &["1", "2", "3", "4"],
+        ),
+        ("list A --macros M --macros M", &["M", "M"]),
+        ("check A --macros M", &["M"]),
+        ("console A --script S --macros M", &["M"]),
+        ("debug A --macros M", &["M"]),
+        ("trace A --macros M", &["M"]),
+        ("save A --macros M", &["M"]),
+        ("jobs A --macros M", &["M"]),
+    ];
+    for (row, macros) in rows {
+        let all = words(&rt, row)?;
+        let Ok(asked) = command_of(rt.alloc(), all.as_slice()) else {
+            panic!(rt; "{row}");
+        };
+        assert!(rt; asked.macros.as_slice() == *macros, "{row}");
     }
     Ok(())
 }
@@ -213,7 +252,7 @@ fn reads_dialects(rt: HostRuntime) -> Result<(), Fail> {
     for (row, command) in rows {
         let all = words(&rt, row)?;
         assert!(rt;
-            command_of(rt.alloc(), all.as_slice()) == Ok(command),
+            command_of(rt.alloc(), all.as_slice()) == Ok(alone(command)),
             "{row}"
         );
     }
@@ -385,7 +424,7 @@ fn reads_commands(rt: HostRuntime) -> Result<(), Fail> {
     for (row, command) in rows {
         let all = words(&rt, row)?;
         assert!(rt;
-            command_of(rt.alloc(), all.as_slice()) == Ok(command),
+            command_of(rt.alloc(), all.as_slice()) == Ok(alone(command)),
             "{row}"
         );
     }
@@ -394,7 +433,7 @@ fn reads_commands(rt: HostRuntime) -> Result<(), Fail> {
 
 #[test]
 fn refuses_other_words(rt: HostRuntime) -> Result<(), Fail> {
-    let rows: [&str; 65] = [
+    let rows: [&str; 71] = [
         "",
         "boot A",
         "bare",
@@ -460,6 +499,12 @@ fn refuses_other_words(rt: HostRuntime) -> Result<(), Fail> {
         "debug A --dump 00000200:4",
         "work A",
         "work --size 5001",
+        "run A --macros",
+        "run A --macros -M",
+        "run A --macros 1 --macros 2 --macros 3 --macros 4 --macros 5",
+        "listing A --macros M",
+        "work --macros M",
+        "resume A --macros M",
     ];
     for row in rows {
         let all = words(&rt, row)?;
@@ -533,7 +578,7 @@ fn shows_help(rt: HostRuntime) -> Result<(), Fail> {
     for (row, parts) in rows {
         let all = words(&rt, row)?;
         assert!(rt;
-            command_of(rt.alloc(), all.as_slice()) == Ok(Command::About),
+            command_of(rt.alloc(), all.as_slice()) == Ok(alone(Command::About)),
             "{row}"
         );
         let Ok(shown) = about(rt.alloc(), all.as_slice()) else {

@@ -14,7 +14,7 @@ use Rattle.vax_outside.specs.declared.faults.Failures.{Failures}
 use Rattle.vax_cli.specs.Words.{Options, Text}
 use Rattle.vax_command.specs.Reading.{EndsBy, HasTexts, Reads, ReadEndsFrom, Texts, behind, file_limit, first_of, given, joined_reads, of_options, option_of, read_files}
 use Rattle.vax_command.specs.declared.status.Status.{Status}
-use Rattle.vax_command.specs.declared.status.Status.TheVariants.{Done, Usage, Missing, Large, Refused, Link, Schedule, Image, Turns, PageFault, ReadFault, WriteFault, NoMemory, Saved, Order, NotHalted, Unsuccessful, Unfinished, LineFault, Told}
+use Rattle.vax_command.specs.declared.status.Status.TheVariants.{Done, Usage, Missing, Large, Refused, Macros, Link, Schedule, Image, Turns, PageFault, ReadFault, WriteFault, NoMemory, Saved, Order, NotHalted, Unsuccessful, Unfinished, LineFault, Told}
 
 -- what reading some names gives, and then others
 abbrev joined : Result (List Text) (Text × FilesFault) → Result (List Text) (Text × FilesFault) → Result (List Text) (Text × FilesFault)
@@ -61,6 +61,7 @@ ends_more rose later P Q Usage up f e = e
 ends_more rose later P Q (Missing name) up f e = f _ e
 ends_more rose later P Q (Large name) up f e = f _ e
 ends_more rose later P Q (Refused file line kind) up f e = e
+ends_more rose later P Q (Macros file line kind) up f e = e
 ends_more rose later P Q (Link kind name place) up f e = e
 ends_more rose later P Q (Schedule line kind) up f e = e
 ends_more rose later P Q (Image place kind) up f e = e

@@ -1,10 +1,11 @@
 -- What a call sees of the outside: the files, the output channels and the page file, before it and after it.
-use Rattle.std.specs.Prelude.{◌≡◌, ℕ, List, Option, None}
+use Rattle.std.specs.Prelude.{◌≡◌, ℕ, List, [], Option, None}
 use Rattle.vax_outside.specs.Blocks.{BlockFile}
 use Rattle.vax_outside.specs.Channels.{Channels}
 use Rattle.vax_outside.specs.Directory.{Directory}
 use Rattle.vax_outside.specs.Faults.{Rose, no_failures}
 use Rattle.vax_outside.specs.declared.faults.Failures.{Failures}
+use Rattle.vax_prelude.specs.Preludes.{Prelude}
 
 -- what is seen of an object: which of its calls have failed, and what it holds, where it tells that
 pub record Seen (T : Type 0) : Type 0 where
@@ -40,20 +41,25 @@ outside sink pages = record { sink = sink; pages = pages }
 abbrev pub untaken : Change (List (List ℕ))
 untaken = record { before = record { faults = no_failures; told = None }; after = record { faults = no_failures; told = None }; same = Unit {0} }
 
--- what a command sees: the files that it reads too, and the lines that it takes
+-- what a command sees: the files that it reads too, the lines that it takes, and what stands before each of its sources
 pub record Around : Type 1 where
   pub files : Change Directory
   pub sink : Change Channels
   pub pages : Change BlockFile
   pub lines : Change (List (List ℕ))
+  pub preludes : List Prelude
 
--- one that takes no lines
+-- one that takes no lines, and whose sources have nothing before them
 abbrev pub around : Change Directory → Change Channels → Change BlockFile → Around
-around files sink pages = record { files = files; sink = sink; pages = pages; lines = untaken }
+around files sink pages = record { files = files; sink = sink; pages = pages; lines = untaken; preludes = [] }
 
 -- and these lines beside it
 abbrev pub beside : Change (List (List ℕ)) → Around → Around
 beside lines seen = record seen { lines = lines }
+
+-- and with these preludes
+abbrev pub with_preludes : List Prelude → Around → Around
+with_preludes preludes seen = record seen { preludes = preludes }
 
 -- what its run sees
 abbrev pub outside_of : Around → Outside

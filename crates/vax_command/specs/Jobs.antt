@@ -23,7 +23,7 @@ use Rattle.vax_command.specs.Reading.{Reads, behind, first_of, given, option_of}
 use Rattle.vax_command.specs.Running.{LacksMemory}
 use Rattle.vax_command.specs.Status.{refusal_growth}
 use Rattle.vax_command.specs.declared.status.Status.{Status}
-use Rattle.vax_command.specs.declared.status.Status.TheVariants.{Done, Usage, Missing, Large, Refused, Link, Schedule, Image as BadImage, Turns, PageFault, ReadFault, WriteFault, NoMemory, Saved, Order, NotHalted, Unsuccessful, Unfinished, LineFault, Told}
+use Rattle.vax_command.specs.declared.status.Status.TheVariants.{Done, Usage, Missing, Large, Refused, Macros, Link, Schedule, Image as BadImage, Turns, PageFault, ReadFault, WriteFault, NoMemory, Saved, Order, NotHalted, Unsuccessful, Unfinished, LineFault, Told}
 
 -- the files of their options: the input and the order
 abbrev pub jobs_files : JobsOptions → List Text
@@ -115,6 +115,7 @@ IsJobsAnswer failed Usage = ⊥
 IsJobsAnswer failed (Missing name) = ⊥
 IsJobsAnswer failed (Large name) = ⊥
 IsJobsAnswer failed (Refused file line kind) = ⊥
+IsJobsAnswer failed (Macros file line kind) = ⊥
 IsJobsAnswer failed (Link kind name place) = ⊥
 IsJobsAnswer failed (Schedule line kind) = ⊥
 IsJobsAnswer failed (BadImage place kind) = ⊥

@@ -6,7 +6,7 @@ use Rattle.vax_outside.specs.declared.traits.FilesFault.TheVariants as faults
 use Rattle.vax_cli.specs.Words.{Options, Text}
 use Rattle.vax_command.specs.Around.{Change, HasFailed}
 use Rattle.vax_command.specs.declared.status.Status.{Status}
-use Rattle.vax_command.specs.declared.status.Status.TheVariants.{Done, Usage, Missing, Large, Refused, Link, Schedule, Image, Turns, PageFault, ReadFault, WriteFault, NoMemory, Saved, Order, NotHalted, Unsuccessful, Unfinished, LineFault, Told}
+use Rattle.vax_command.specs.declared.status.Status.TheVariants.{Done, Usage, Missing, Large, Refused, Macros, Link, Schedule, Image, Turns, PageFault, ReadFault, WriteFault, NoMemory, Saved, Order, NotHalted, Unsuccessful, Unfinished, LineFault, Told}
 
 -- the most bytes of a file
 abbrev pub file_limit : ℕ
@@ -42,6 +42,7 @@ EndsBy rose fails Usage = ⊥
 EndsBy rose fails (Missing name) = fails (name, faults.Missing)
 EndsBy rose fails (Large name) = fails (name, faults.Large)
 EndsBy rose fails (Refused file line kind) = ⊥
+EndsBy rose fails (Macros file line kind) = ⊥
 EndsBy rose fails (Link kind name place) = ⊥
 EndsBy rose fails (Schedule line kind) = ⊥
 EndsBy rose fails (Image place kind) = ⊥

@@ -119,6 +119,10 @@ IsSaving outside program input schedule options status grown =
 abbrev pub HasSavedRun : Outside → Loaded → (input schedule : Text) → Options → Status → Type 0
 HasSavedRun outside program input schedule options result = EndsSo outside.sink (IsSaving outside program input schedule options) result
 
+-- on Record the bytes of the state at this place
+abbrev pub state_at : Place → (steps : ℕ) → Channels
+state_at place steps = only Record (saved place steps)
+
 -- The state of a machine that stands for this place was saved, and the report was written; or the page file failed while it was saved, behind a part of it.
 abbrev pub SavesAt : Change BlockFile → Engine → Place → Last → (meant : Status) → Status → Channels → Type 0
 SavesAt pages m place why meant status grown =

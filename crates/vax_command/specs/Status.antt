@@ -5,7 +5,7 @@ use Rattle.vax_outside.specs.Channels.{Channels, nothing, only}
 use Rattle.vax_outside.specs.declared.traits.Chan.TheVariants.{Report}
 use Rattle.vax_command.specs.declared.status.Part.TheVariants as part
 use Rattle.vax_command.specs.declared.status.Status.{Status}
-use Rattle.vax_command.specs.declared.status.Status.TheVariants.{Done, Usage, Missing, Large, Refused, Link, Schedule, Image, Turns, PageFault, ReadFault, WriteFault, NoMemory, Saved, Order, NotHalted, Unsuccessful, Unfinished, LineFault, Told}
+use Rattle.vax_command.specs.declared.status.Status.TheVariants.{Done, Usage, Missing, Large, Refused, Macros, Link, Schedule, Image, Turns, PageFault, ReadFault, WriteFault, NoMemory, Saved, Order, NotHalted, Unsuccessful, Unfinished, LineFault, Told}
 
 -- the exit status of the process
 abbrev pub code : Status → ℕ
@@ -14,6 +14,7 @@ code Usage = 1
 code (Missing name) = 2
 code (Large name) = 3
 code (Refused file line kind) = 4
+code (Macros file line kind) = 4
 code (Link kind name place) = 5
 code (Schedule line kind) = 6
 code (Image place kind) = 7
@@ -44,6 +45,10 @@ fault_at label place kind = label ++ decimal place ++ codes " fault " ++ decimal
 unfoldable pub source_fault : ℕ → ℕ → ℕ → List ℕ
 source_fault file line kind = fault_at (codes "vax: source " ++ decimal file ++ codes " line ") line kind
 
+-- a fault in a prelude of sources
+unfoldable pub macros_fault : ℕ → ℕ → ℕ → List ℕ
+macros_fault file line kind = fault_at (codes "vax: macros " ++ decimal file ++ codes " line ") line kind
+
 -- kinds of what the linker finds that have a name
 abbrev pub is_named : ℕ → Bool
 is_named kind = (kind == 1) || (kind == 2)
@@ -63,6 +68,7 @@ refusal Usage = Some (codes "vax: usage\n")
 refusal (Missing name) = Some (named (codes "vax: missing ") name)
 refusal (Large name) = Some (named (codes "vax: large ") name)
 refusal (Refused file line kind) = Some (source_fault file line kind)
+refusal (Macros file line kind) = Some (macros_fault file line kind)
 refusal (Link kind name place) = Some (link_fault kind name place)
 refusal (Schedule line kind) = Some (fault_at (codes "vax: schedule line ") line kind)
 refusal (Image place kind) = Some (fault_at (codes "vax: image place ") place kind)

@@ -26,7 +26,7 @@ use Rattle.vax_command.specs.Around.{HasFailed, Outside}
 use Rattle.vax_command.specs.Pages.{HasRun, RunsOrLoses}
 use Rattle.vax_command.specs.Setup.{Setup, after_turns, before_turns, run_of}
 use Rattle.vax_command.specs.declared.status.Status.{Status}
-use Rattle.vax_command.specs.declared.status.Status.TheVariants.{Done, Usage, Missing, Large, Refused, Link, Schedule, Image, Turns, PageFault, ReadFault, WriteFault, NoMemory, Saved, Order, NotHalted, Unsuccessful, Unfinished, LineFault, Told}
+use Rattle.vax_command.specs.declared.status.Status.TheVariants.{Done, Usage, Missing, Large, Refused, Macros, Link, Schedule, Image, Turns, PageFault, ReadFault, WriteFault, NoMemory, Saved, Order, NotHalted, Unsuccessful, Unfinished, LineFault, Told}
 
 abbrev pub limits_of : Options → Limits
 limits_of options = record { steps = options.steps; turns = options.turns; listed = options.recorded }
@@ -115,6 +115,7 @@ IsRunAnswer strict failed Usage = ⊥
 IsRunAnswer strict failed (Missing name) = ⊥
 IsRunAnswer strict failed (Large name) = ⊥
 IsRunAnswer strict failed (Refused file line kind) = ⊥
+IsRunAnswer strict failed (Macros file line kind) = ⊥
 IsRunAnswer strict failed (Link kind name place) = ⊥
 IsRunAnswer strict failed (Schedule line kind) = ⊥
 IsRunAnswer strict failed (Image place kind) = ⊥

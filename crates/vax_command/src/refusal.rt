@@ -2,7 +2,7 @@
 ghost use Rattle.std.specs.Prelude.{◌≡◌, ◌≤◌, OnErr, OnOk, true, false, is_err, length};
 ghost use Rattle.vax_outside.specs.Channels.{Grew, GrewByPrefix, only};
 ghost use Rattle.vax_outside.specs.Faults.{CountsFailure};
-ghost use Rattle.vax_command.specs.Status.{fault_at, is_named, link_fault, named, refusal_growth, source_fault};
+ghost use Rattle.vax_command.specs.Status.{fault_at, is_named, link_fault, macros_fault, named, refusal_growth, source_fault};
 ghost use Rattle.vax_command.specs.Around.{change};
 ghost use Rattle.vax_command.specs.Ends.{Ends};
 
@@ -54,6 +54,22 @@ fn put_source_fault<K: Sink>(file: u8, line: u32, kind: u8, sink: &mut K) -> Res
 {
     let mut label = Text::new();
     label.push(b"vax: source ");
+    label.push_decimal(file as u64);
+    label.push(b" line ");
+    put_fault(label.as_slice(), line, kind, sink)
+}
+
+/// Writes the place of a fault in a prelude of sources.
+#[tactic(auto, unfolding(crate::specs::Status::macros_fault))]
+fn put_macros_fault<K: Sink>(file: usize, line: u32, kind: u8, sink: &mut K) -> Result<(), Failed>
+    ensures ok { OnOk result (Grew (K.contents sink.old) (K.contents sink.new)
+        (only Chan.Report (macros_fault file line kind))) }
+    ensures prefix { OnErr result (GrewByPrefix (K.contents sink.old) (K.contents sink.new)
+        (only Chan.Report (macros_fault file line kind))) }
+    ensures counts { CountsFailure (is_err result) (K.faults sink.old) (K.faults sink.new) }
+{
+    let mut label = Text::new();
+    label.push(b"vax: macros ");
     label.push_decimal(file as u64);
     label.push(b" line ");
     put_fault(label.as_slice(), line, kind, sink)
@@ -125,6 +141,7 @@ fn put_refusal<K: Sink>(status: &Status, sink: &mut K) -> Result<(), Failed>
         Status::Missing(name) => put_named(b"vax: missing ", name.as_bytes(), sink),
         Status::Large(name) => put_named(b"vax: large ", name.as_bytes(), sink),
         Status::Refused { file, line, kind } => put_source_fault(*file, *line, *kind, sink),
+        Status::Macros { file, line, kind } => put_macros_fault(*file, *line, *kind, sink),
         Status::Link { kind, name, place } => put_link_fault(*kind, name.as_slice(), *place, sink),
         Status::Schedule { line, kind } => put_fault(b"vax: schedule line ", *line, *kind, sink),
         Status::Order { line, kind } => put_fault(b"vax: order line ", *line, *kind, sink),

@@ -26,8 +26,8 @@ use vax_report::Last;
 use vax_save::{SaveEnd, save};
 use vax_sched::Schedule;
 
-/// Saves the state of a machine that a limit stopped, and writes the report on it.
-fn save_and_report<K: Sink, F: PageFile>(
+/// Saves the state of a machine in Record, and writes the report on it. Where a call of the page file fails, a part of the state is saved, and the report says so.
+pub fn save_and_report<K: Sink, F: PageFile>(
     machine: Machine,
     last: Last,
     meant: Status,

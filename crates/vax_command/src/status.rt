@@ -28,6 +28,8 @@ pub enum Status {
     Large(Name),
     /// The first fault of a source: its file, counted from 1, its line and its kind.
     Refused { file: u8, line: u32, kind: u8 },
+    /// The first fault of a source, which is in one of the files that are read before it: that file, counted from 1, its line and its kind.
+    Macros { file: usize, line: u32, kind: u8 },
     /// What the linker found: kinds 1 and 2 with a name, kind 5 with the address of a field.
     Link { kind: u8, name: Bytes, place: u32 },
     /// The first fault of a schedule.
@@ -73,6 +75,7 @@ impl Status {
             Status::Missing(_) => 2,
             Status::Large(_) => 3,
             Status::Refused { .. } => 4,
+            Status::Macros { .. } => 4,
             Status::Link { .. } => 5,
             Status::Schedule { .. } => 6,
             Status::Image { .. } => 7,

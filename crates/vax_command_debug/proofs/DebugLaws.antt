@@ -5,11 +5,13 @@ use Rattle.vax_outside.specs.Blocks.{BlockFile}
 use Rattle.vax_outside.specs.Channels.{Channels, Grew, GrewByPrefix, append, nothing, only}
 use Rattle.vax_outside.specs.declared.traits.Chan.TheVariants.{Report}
 use Rattle.vax_outside.proofs.Growth.{append-nothing, grew_nothing}
-use Rattle.vax_flat.specs.Parts.{Place, At, machine_at}
+use Rattle.vax_flat.specs.Parts.{Place, At, machine_at, units_done}
 use Rattle.vax_flat.specs.Step.{Flat}
+use Rattle.vax_flat.specs.declared.Ending.{Ending}
 use Rattle.vax_image.specs.Start.{start_areas}
 use Rattle.vax_sched.specs.Faults.{Denotes}
 use Rattle.vax_sched.specs.declared.rule.Rule.{Rule}
+use Rattle.vax_report.specs.Report.{report}
 use Rattle.vax_report.specs.declared.Last.{Last}
 use Rattle.vax_report.specs.declared.Last.TheVariants as last
 use Rattle.vax_machine.specs.Console.{IsBetween}
@@ -23,6 +25,7 @@ use Rattle.vax_debug_session.specs.Failure.TheVariants as failure
 use Rattle.vax_debug_session.specs.Acting.{IsToldInPart}
 use Rattle.vax_debug_session.specs.Exchanges.{Exchange}
 use Rattle.vax_debug_session.specs.Holding.{Holds, IsCutShort, Stage, Terms, act_of, after_line, held_after, prompt, replied, stage, transcript}
+use Rattle.vax_debug_session.specs.Plans.{no_plan}
 use Rattle.vax_debug_session.specs.declared.SessionEnd.{SessionEnd}
 use Rattle.vax_debug_session.specs.declared.SessionEnd.TheVariants as end
 use Rattle.vax_cli.specs.Words.{Options, Text}
@@ -31,12 +34,13 @@ use Rattle.vax_command.specs.Ends.{Ends, EndsFrom, EndsSo}
 use Rattle.vax_command.specs.Fresh.{IsFresh, machine_report}
 use Rattle.vax_command.specs.Loaded.{Loaded}
 use Rattle.vax_command.specs.Running.{IsFaulty}
+use Rattle.vax_command.specs.Saving.{AnswersSave, SavesAt}
 use Rattle.vax_command.specs.SessionWent.{broken_off, opening}
 use Rattle.vax_command.specs.Status.{refusal_growth}
 use Rattle.vax_command.specs.declared.status.Status.{Status}
 use Rattle.vax_command.specs.declared.status.Status.TheVariants.{Done, LineFault, NoMemory, PageFault, Turns, WriteFault}
 use Rattle.vax_command.proofs.RunLaws.{ends_after, reported_at}
-use Rattle.vax_command_debug.specs.Course.{Causes, Spot, Went, WentFrom, answer_of, begun, spot_at, wrote_at}
+use Rattle.vax_command_debug.specs.Course.{Causes, SavesBy, SavesHere, Spot, Went, WentFrom, answer_of, begun, saving_output, spot_at, state_unless, wrote_at}
 use Rattle.vax_command_debug.specs.Debugging.{Debugged, Given, terms_of}
 use Rattle.vax_image.specs.Start.{Start}
 
@@ -95,7 +99,7 @@ module _ (outside : Outside) (lines : Change (List Text)) (g : Terms) (m n : Eng
         (told_behind (At s.machine) s.steps replies (last_of n.ended) meant here.at.sent here.at.steps here.at.means here.at.output here.at.wrote ends)
 
     -- where the page file doesn't tell its contents: the report behind what was written to Out and Report
-    untold : (e : SessionEnd) (meant : Status) (why : Last) → meant ≡ answer_of e → (h : Holds g [] e (stage_at outside lines m None n mid.told)) → Causes e outside lines → OnlyReplied outside.sink.before.told mid.told
+    untold : (e : SessionEnd) (meant : Status) (why : Last) → meant ≡ answer_of e → (h : Holds g no_plan e (stage_at outside lines m None n mid.told)) → Causes e outside lines → OnlyReplied outside.sink.before.told mid.told
         → EndsFrom mid outside.sink.after meant (only Report (machine_report n why [])) result → WentSo None outside lines start g result
     untold e meant why is h cause only_these ends =
         let text = only Report (machine_report n why []) in
@@ -103,12 +107,12 @@ module _ (outside : Outside) (lines : Change (List Text)) (g : Terms) (m n : Eng
         record {
           meant = meant;
           grown = append wrote text;
-          so = (e, record { given = h.lines; took = h.took; asked = h.asked; cause = cause; answer = is; unrecorded = refl });
+          so = inl (e, record { given = h.lines; took = h.took; asked = h.asked; cause = cause; answer = is; unrecorded = refl });
           ends = ends_after outside.sink.before mid outside.sink.after meant wrote text result only_these.grew quiet ends;
         }
 
     -- a line asked for the end
-    pub quit : (told : Option BlockFile) → OnlyReplied outside.sink.before.told mid.told → Holds g [] end.Quit (stage_at outside lines m told n mid.told)
+    pub quit : (told : Option BlockFile) → OnlyReplied outside.sink.before.told mid.told → Holds g no_plan end.Quit (stage_at outside lines m told n mid.told)
         → EndsFrom mid outside.sink.after Done (only Report (machine_report n (last_of n.ended) [])) result → WentSo told outside lines start g result
     quit None only_these h ends = untold end.Quit Done (last_of n.ended) refl h tt only_these ends
     quit (Some file) only_these h ends =
@@ -117,12 +121,90 @@ module _ (outside : Outside) (lines : Change (List Text)) (g : Terms) (m n : Eng
         record {
           meant = Done;
           grown = wrote_at end.Quit spot;
-          so = (end.Quit, record { given = h.lines; took = h.took; asked = h.asked; spot = spot; stops = refl; cause = tt; answer = refl; wrote = refl });
+          so = inl (end.Quit, record { given = h.lines; took = h.took; asked = h.asked; spot = spot; stops = refl; cause = tt; answer = refl; wrote = refl });
           ends = told_here _ _ Done here ends;
         }
 
+    -- a line asked for the state to be saved
+
+    -- where the session was held, with what the page file told then
+    abbrev stage_at_file : (told now : Option BlockFile) → Stage
+    stage_at_file told now = stage (scene m told outside.sink.before.told) (scene n now mid.told) lines.before.told lines.after.told
+
+    ends_between : (c : Change Channels) → c.before ≡ mid → c.after ≡ outside.sink.after → (status : Status) (grown : Channels) → Ends c status grown result → EndsFrom mid outside.sink.after status grown result
+    ends_between c begins stops status grown e = subst (λ (z : Seen Channels). EndsFrom mid z status grown result) stops (subst (λ (z : Seen Channels). EndsFrom z c.after status grown result) begins e)
+
+    -- what was written behind the session's output and its replies
+    output_is : (s : Session) (replies : List ℕ) (now : Option BlockFile) (here : IsHere origin s replies (scene n now mid.told)) (a b : Channels) (why told_so : Last) (grown : Channels) → a ≡ b → why ≡ told_so
+        → grown ≡ append a (only Report (machine_report n why [])) → append (writes here.at.sent replies) grown ≡ saving_output s replies b told_so
+    output_is s replies now here a b why told_so grown state reason is =
+        let sent : here.at.sent ≡ s.machine.output = sent_all start.output s.machine.output here.at.sent f.silent here.at.output in
+        let text : machine_report n why [] ≡ report s.machine.core told_so s.steps (units_done (At s.machine)) s.machine.taken [] =
+        reported_at n now (At s.machine) s.steps why [] here.at.steps here.at.means ∙ ap (λ (z : Last). report s.machine.core z s.steps (units_done (At s.machine)) s.machine.taken []) reason in
+        ap (append (writes here.at.sent replies)) is ∙ (λ i. append (writes (sent i) replies) (append (state i) (only Report (text i))))
+
+    -- what the call that saves comes to, seen from the session's start
+    module _ (read : Change BlockFile) (up : HasFailed read → HasFailed outside.pages) (status : Status) (grown : Channels) (ends : EndsFrom mid outside.sink.after status grown result) where
+      saves_here : (s : Session) (replies : List ℕ) (now : Option BlockFile) → IsHere origin s replies (scene n now mid.told) → SavesBy n.ended read n (At s.machine) status grown → EndsSo outside.sink (SavesHere outside s replies) result
+      saves_here s replies now here (inl w) =
+          let ended : n.ended ≡ s.machine.ending = ap (λ (flat : Flat). flat.ending) here.at.means.processor.machine in
+          let steps = here.at.steps in
+          record {
+            meant = status;
+            grown = append (writes here.at.sent replies) grown;
+            so = inl (w.0, output_is s replies now here (state_unless n.ended (At s.machine) n.steps) (state_unless s.machine.ending (At s.machine) s.steps) (last_of n.ended) (last_of s.machine.ending) grown (λ i. state_unless (ended i) (At s.machine) (steps i)) (ap last_of ended) w.1);
+            ends = ends_after outside.sink.before mid outside.sink.after status (writes here.at.sent replies) grown result here.at.wrote quiet ends;
+          }
+      saves_here s replies now here (inr w) =
+          let ended : n.ended ≡ s.machine.ending = ap (λ (flat : Flat). flat.ending) here.at.means.processor.machine in
+          let steps = here.at.steps in
+          let state : state_unless n.ended (At s.machine) n.steps ≡ state_unless s.machine.ending (At s.machine) s.steps = λ i. state_unless (ended i) (At s.machine) (steps i) in
+          let part = w.2 in
+          record {
+            meant = status;
+            grown = append (writes here.at.sent replies) grown;
+            so = inr (up w.0, w.1, (part.0, part.1, part.2 ∙ state, output_is s replies now here part.0 part.0 last.PageFault last.PageFault grown refl refl part.3));
+            ends = ends_after outside.sink.before mid outside.sink.after status (writes here.at.sent replies) grown result here.at.wrote quiet ends;
+          }
+
+      answer_so : AnswersSave read Done status grown → (behind : Channels) → AnswersSave outside.pages Done status behind
+      answer_so (inl is) behind = inl is
+      answer_so (inr w) behind = inr (up w.0, w.1)
+
+      untold_saved : (now : Option BlockFile) → OnlyReplied outside.sink.before.told mid.told → Holds g no_plan end.Save (stage_at_file None now) → AnswersSave read Done status grown → WentSo None outside lines start g result
+      untold_saved now only_these h a =
+          let wrote = writes only_these.sent only_these.replies in
+          record {
+            meant = status;
+            grown = append wrote grown;
+            so = inr (record { given = h.lines; took = h.took; asked = h.asked; answer = answer_so a (append wrote grown) });
+            ends = ends_after outside.sink.before mid outside.sink.after status wrote grown result only_these.grew quiet ends;
+          }
+
+      told_saved : (file : BlockFile) (now : Option BlockFile) (h : Holds g no_plan end.Save (stage_at_file (Some file) now)) → SavesBy n.ended read n (At (held_after g (begun start) h.lines).session.machine) status grown → WentSo (Some file) outside lines start g result
+      told_saved file now h a =
+          let s = (held_after g (begun start) h.lines).session in
+          let replies = transcript g (begun start) h.lines in
+          let here : IsHere origin s (replies ++ []) (scene n now mid.told) = h.goes origin (opening start) [] (is_here file) in
+          let w = saves_here s replies now (subst (λ (z : List ℕ). IsHere origin s z (scene n now mid.told)) (append-nil replies) here) a in
+          record { meant = w.meant; grown = w.grown; so = inr (record { given = h.lines; took = h.took; asked = h.asked; saves = w.so }); ends = w.ends }
+
+    -- where the session is then, whatever the page file told
+    saved_at : (file : BlockFile) (now : Option BlockFile) (h : Holds g no_plan end.Save (stage_at_file (Some file) now)) → Means n now (At (held_after g (begun start) h.lines).session.machine)
+    saved_at file now h =
+        let here : IsHere origin (held_after g (begun start) h.lines).session (transcript g (begun start) h.lines ++ []) (scene n now mid.told) = h.goes origin (opening start) [] (is_here file) in
+        here.at.means
+
+    pub saved : (told now : Option BlockFile) (between_calls : Change Channels) (read : Change BlockFile) → between_calls.before ≡ mid → between_calls.after ≡ outside.sink.after → (HasFailed read → HasFailed outside.pages)
+        → OnlyReplied outside.sink.before.told mid.told → Holds g no_plan end.Save (stage_at_file told now)
+        → ((place : Place) → Means n now place → EndsSo between_calls (SavesBy n.ended read n place) result) → EndsSo between_calls (AnswersSave read Done) result → WentSo told outside lines start g result
+    saved None now c read begins stops up only_these h places answers = untold_saved read up answers.meant answers.grown (ends_between c begins stops answers.meant answers.grown answers.ends) now only_these h answers.so
+    saved (Some file) now c read begins stops up only_these h places answers =
+        let w = places (At (held_after g (begun start) h.lines).session.machine) (saved_at file now h) in
+        told_saved read up w.meant w.grown (ends_between c begins stops w.meant w.grown w.ends) file now h w.so
+
     -- no line was left
-    pub read_out : (told : Option BlockFile) → OnlyReplied outside.sink.before.told mid.told → Holds g [] end.Read (stage_at outside lines m told n mid.told)
+    pub read_out : (told : Option BlockFile) → OnlyReplied outside.sink.before.told mid.told → Holds g no_plan end.Read (stage_at outside lines m told n mid.told)
         → EndsFrom mid outside.sink.after Done (only Report (machine_report n (last_of n.ended) [])) result → WentSo told outside lines start g result
     read_out None only_these h ends = untold end.Read Done (last_of n.ended) refl h tt only_these ends
     read_out (Some file) only_these h ends =
@@ -131,12 +213,12 @@ module _ (outside : Outside) (lines : Change (List Text)) (g : Terms) (m n : Eng
         record {
           meant = Done;
           grown = wrote_at end.Read spot;
-          so = (end.Read, record { given = h.lines; took = h.took; asked = h.asked; spot = spot; stops = refl; cause = tt; answer = refl; wrote = refl });
+          so = inl (end.Read, record { given = h.lines; took = h.took; asked = h.asked; spot = spot; stops = refl; cause = tt; answer = refl; wrote = refl });
           ends = told_here _ _ Done here ends;
         }
 
     -- no more lines are counted
-    pub counted_out : (told : Option BlockFile) → OnlyReplied outside.sink.before.told mid.told → Holds g [] end.Lines (stage_at outside lines m told n mid.told)
+    pub counted_out : (told : Option BlockFile) → OnlyReplied outside.sink.before.told mid.told → Holds g no_plan end.Lines (stage_at outside lines m told n mid.told)
         → EndsFrom mid outside.sink.after Done (only Report (machine_report n (last_of n.ended) [])) result → WentSo told outside lines start g result
     counted_out None only_these h ends = untold end.Lines Done (last_of n.ended) refl h tt only_these ends
     counted_out (Some file) only_these h ends =
@@ -145,12 +227,12 @@ module _ (outside : Outside) (lines : Change (List Text)) (g : Terms) (m n : Eng
         record {
           meant = Done;
           grown = wrote_at end.Lines spot;
-          so = (end.Lines, record { given = h.lines; took = h.took; asked = h.asked; spot = spot; stops = refl; cause = tt; answer = refl; wrote = refl });
+          so = inl (end.Lines, record { given = h.lines; took = h.took; asked = h.asked; spot = spot; stops = refl; cause = tt; answer = refl; wrote = refl });
           ends = told_here _ _ Done here ends;
         }
 
     -- a line couldn't be read
-    pub unread : (told : Option BlockFile) → OnlyReplied outside.sink.before.told mid.told → HasFailed lines → Holds g [] end.LineFault (stage_at outside lines m told n mid.told)
+    pub unread : (told : Option BlockFile) → OnlyReplied outside.sink.before.told mid.told → HasFailed lines → Holds g no_plan end.LineFault (stage_at outside lines m told n mid.told)
         → EndsFrom mid outside.sink.after LineFault (only Report (machine_report n (last_of n.ended) [])) result → WentSo told outside lines start g result
     unread None only_these rose h ends = untold end.LineFault LineFault (last_of n.ended) refl h rose only_these ends
     unread (Some file) only_these rose h ends =
@@ -159,12 +241,12 @@ module _ (outside : Outside) (lines : Change (List Text)) (g : Terms) (m n : Eng
         record {
           meant = LineFault;
           grown = wrote_at end.LineFault spot;
-          so = (end.LineFault, record { given = h.lines; took = h.took; asked = h.asked; spot = spot; stops = refl; cause = rose; answer = refl; wrote = refl });
+          so = inl (end.LineFault, record { given = h.lines; took = h.took; asked = h.asked; spot = spot; stops = refl; cause = rose; answer = refl; wrote = refl });
           ends = told_here _ _ LineFault here ends;
         }
 
     -- the limit of turns was reached
-    pub timed_out : (told : Option BlockFile) → OnlyReplied outside.sink.before.told mid.told → Holds g [] end.Turns (stage_at outside lines m told n mid.told)
+    pub timed_out : (told : Option BlockFile) → OnlyReplied outside.sink.before.told mid.told → Holds g no_plan end.Turns (stage_at outside lines m told n mid.told)
         → EndsFrom mid outside.sink.after Turns (only Report (machine_report n last.Turns [])) result → WentSo told outside lines start g result
     timed_out None only_these h ends = untold end.Turns Turns last.Turns refl h tt only_these ends
     timed_out (Some file) only_these h ends =
@@ -175,7 +257,7 @@ module _ (outside : Outside) (lines : Change (List Text)) (g : Terms) (m n : Eng
         record {
           meant = Turns;
           grown = wrote_at end.Turns spot;
-          so = (
+          so = inl (
             end.Turns,
             record {
               given = h.lines;
@@ -192,7 +274,7 @@ module _ (outside : Outside) (lines : Change (List Text)) (g : Terms) (m n : Eng
         }
 
     -- a call of the page file failed
-    module _ (file : BlockFile) (rose : HasFailed outside.pages) (h : Holds g [] end.PageFault (stage_at outside lines m (Some file) n mid.told)) (front : List Exchange) (line : Exchange) (splits : h.lines ≡ front ++ line ∷ []) (ends : EndsFrom mid outside.sink.after PageFault (only Report (machine_report n last.PageFault [])) result) where
+    module _ (file : BlockFile) (rose : HasFailed outside.pages) (h : Holds g no_plan end.PageFault (stage_at outside lines m (Some file) n mid.told)) (front : List Exchange) (line : Exchange) (splits : h.lines ≡ front ++ line ∷ []) (ends : EndsFrom mid outside.sink.after PageFault (only Report (machine_report n last.PageFault [])) result) where
       abbrev front_replies : List ℕ
       front_replies = transcript g (begun start) front ++ prompt g.prompts
 
@@ -204,7 +286,7 @@ module _ (outside : Outside) (lines : Change (List Text)) (g : Terms) (m n : Eng
           record {
             meant = PageFault;
             grown = wrote_at end.PageFault spot;
-            so = (end.PageFault, record { given = h.lines; took = h.took; asked = h.asked; spot = spot; stops = inl (record { front = front; last = line; splits = splits; way = w.goes; replies = refl }); cause = rose; answer = refl; wrote = refl });
+            so = inl (end.PageFault, record { given = h.lines; took = h.took; asked = h.asked; spot = spot; stops = inl (record { front = front; last = line; splits = splits; way = w.goes; replies = refl }); cause = rose; answer = refl; wrote = refl });
             ends = told_behind w.place n.steps front_replies last.PageFault PageFault w.sent refl w.means w.output w.wrote ends;
           }
       cut_in (inr p) =
@@ -213,11 +295,11 @@ module _ (outside : Outside) (lines : Change (List Text)) (g : Terms) (m n : Eng
           record {
             meant = PageFault;
             grown = wrote_at end.PageFault spot;
-            so = (end.PageFault, record { given = h.lines; took = h.took; asked = h.asked; spot = spot; stops = inr (record { front = front; last = line; splits = splits; told = p.told; untold = p.untold; parts = p.splits; is = refl }); cause = rose; answer = refl; wrote = refl });
+            so = inl (end.PageFault, record { given = h.lines; took = h.took; asked = h.asked; spot = spot; stops = inr (record { front = front; last = line; splits = splits; told = p.told; untold = p.untold; parts = p.splits; is = refl }); cause = rose; answer = refl; wrote = refl });
             ends = told_behind (At s.machine) s.steps (front_replies ++ p.told) last.PageFault PageFault p.at.sent p.at.steps p.at.means p.at.output p.at.wrote ends;
           }
 
-    pub cut_off : (told : Option BlockFile) → OnlyReplied outside.sink.before.told mid.told → HasFailed outside.pages → Holds g [] end.PageFault (stage_at outside lines m told n mid.told)
+    pub cut_off : (told : Option BlockFile) → OnlyReplied outside.sink.before.told mid.told → HasFailed outside.pages → Holds g no_plan end.PageFault (stage_at outside lines m told n mid.told)
         → EndsFrom mid outside.sink.after PageFault (only Report (machine_report n last.PageFault [])) result → WentSo told outside lines start g result
     cut_off None only_these rose h ends = untold end.PageFault PageFault last.PageFault refl h rose only_these ends
     cut_off (Some file) only_these rose h ends =
@@ -225,7 +307,7 @@ module _ (outside : Outside) (lines : Change (List Text)) (g : Terms) (m n : Eng
         cut_in file rose h c.front c.last c.splits ends c.acts
 
   -- a write failed
-  module _ (file : BlockFile) (rose : HasFailed outside.sink) (h : Holds g [] end.WriteFault (stage_at outside lines m (Some file) n outside.sink.after.told)) where
+  module _ (file : BlockFile) (rose : HasFailed outside.sink) (h : Holds g no_plan end.WriteFault (stage_at outside lines m (Some file) n outside.sink.after.told)) where
     abbrev lost_scene : Scene
     lost_scene = scene n outside.pages.after.told outside.sink.after.told
 
@@ -241,7 +323,7 @@ module _ (outside : Outside) (lines : Change (List Text)) (g : Terms) (m n : Eng
         record {
           meant = Done;
           grown = wrote_at end.WriteFault spot;
-          so = (
+          so = inl (
             end.WriteFault,
             record {
               given = h.lines;
@@ -273,7 +355,7 @@ module _ (outside : Outside) (lines : Change (List Text)) (g : Terms) (m n : Eng
         record {
           meant = Done;
           grown = wrote_at end.WriteFault spot;
-          so = (
+          so = inl (
             end.WriteFault,
             record {
               given = h.lines;
@@ -297,7 +379,7 @@ module _ (outside : Outside) (lines : Change (List Text)) (g : Terms) (m n : Eng
         record {
           meant = Done;
           grown = wrote_at end.WriteFault spot;
-          so = (
+          so = inl (
             end.WriteFault,
             record {
               given = h.lines;
@@ -325,17 +407,26 @@ module _ (outside : Outside) (lines : Change (List Text)) (g : Terms) (m n : Eng
     lost_by (inl c) = lost_line c.front c.last c.splits c.acts
     lost_by (inr p) = lost_prompt p
 
-  pub lost : (told : Option BlockFile) → OnlyReplied outside.sink.before.told outside.sink.after.told → HasFailed outside.sink → Holds g [] end.WriteFault (stage_at outside lines m told n outside.sink.after.told)
+  pub lost : (told : Option BlockFile) → OnlyReplied outside.sink.before.told outside.sink.after.told → HasFailed outside.sink → Holds g no_plan end.WriteFault (stage_at outside lines m told n outside.sink.after.told)
       → WentSo told outside lines start g WriteFault
   lost None only_these rose h =
       let wrote = writes only_these.sent only_these.replies in
       record {
         meant = Done;
         grown = wrote;
-        so = (end.WriteFault, record { given = h.lines; took = h.took; asked = h.asked; cause = rose; answer = refl; unrecorded = refl });
+        so = inl (end.WriteFault, record { given = h.lines; took = h.took; asked = h.asked; cause = rose; answer = refl; unrecorded = refl });
         ends = inr (record { answer = refl; prefix = record { prefix = wrote; rest = nothing; splits = append-nothing wrote; grew = only_these.grew }; cause = rose });
       }
   lost (Some file) only_these rose h = lost_by file rose h (h.goes origin (opening start) [] (is_here file))
+
+-- the state of a machine that hasn't ended was saved, or of one that has ended nothing was
+pub saves_open : (ended : Option Ending) (pages : Change BlockFile) (m : Engine) (place : Place) (status : Status) (grown : Channels) → ended ≡ None → SavesAt pages m place last.Steps Done status grown → SavesBy ended pages m place status grown
+saves_open None pages m place status grown is w = w
+saves_open (Some e) pages m place status grown is w = absurd (cc is)
+
+pub saves_none : (ended : Option Ending) (e : Ending) (pages : Change BlockFile) (m : Engine) (place : Place) → ended ≡ Some e → SavesBy ended pages m place Done (only Report (machine_report m (last_of ended) []))
+saves_none None e pages m place is = absurd (cc is)
+saves_none (Some x) e pages m place is = inl (refl, refl)
 
 -- what a session on programs came to
 module _ (outside : Outside) (lines : Change (List Text)) (program : Loaded) (g : Given) (options : Options) (result : Status) where

@@ -1,9 +1,12 @@
 -- How a session with a debugger goes, and what it writes.
 use Rattle.std.specs.Prelude.{ℕ, ◌≡◌, ◌⊎◌, List, [], ◌∷◌, ◌++◌, Option, None, Some}
 use Rattle.vax_outside.specs.Blocks.{BlockFile}
-use Rattle.vax_outside.specs.Channels.{Channels}
-use Rattle.vax_flat.specs.Parts.{Place, At, machine_at}
+use Rattle.vax_outside.specs.Channels.{Channels, append, nothing, only}
+use Rattle.vax_outside.specs.declared.traits.Chan.TheVariants.{Report}
+use Rattle.vax_flat.specs.Parts.{Place, At, machine_at, units_done}
 use Rattle.vax_flat.specs.Step.{Flat}
+use Rattle.vax_flat.specs.declared.Ending.{Ending}
+use Rattle.vax_report.specs.Report.{report}
 use Rattle.vax_report.specs.declared.Last.{Last}
 use Rattle.vax_report.specs.declared.Last.TheVariants as last
 use Rattle.vax_machine.specs.Machine.{Means}
@@ -12,11 +15,14 @@ use Rattle.vax_console.specs.Ends.{IsOnTheWay, IsOutOfTurns, writes}
 use Rattle.vax_console.specs.Transcript.{Session, last_of}
 use Rattle.vax_debug_session.specs.Exchanges.{Exchange, lines_of}
 use Rattle.vax_debug_session.specs.Holding.{Asked, Terms, Took, act_of, after_line, held_after, prompt, replied, transcript}
+use Rattle.vax_debug_session.specs.Plans.{no_plan}
 use Rattle.vax_debug_session.specs.Requests.{Held, held}
 use Rattle.vax_debug_session.specs.declared.SessionEnd.{SessionEnd}
 use Rattle.vax_debug_session.specs.declared.SessionEnd.TheVariants as end
 use Rattle.vax_cli.specs.Words.{Text}
 use Rattle.vax_command.specs.Around.{Change, HasFailed, Outside}
+use Rattle.vax_command.specs.Fresh.{machine_report}
+use Rattle.vax_command.specs.Saving.{AnswersSave, state_at}
 use Rattle.vax_command.specs.SessionWent.{broken_off, opening}
 use Rattle.vax_command.specs.declared.status.Status.{Status}
 use Rattle.vax_command.specs.declared.status.Status.TheVariants.{Done, LineFault, PageFault, Turns}
@@ -31,9 +37,9 @@ pub record Spot : Type 0 where
 abbrev pub spot_at : Session → List ℕ → Spot
 spot_at s replies = record { place = At s.machine; steps = s.steps; replies = replies }
 
--- before the first line, where steps stop at no address
+-- before the first line, where steps stop at no address and nothing is watched
 abbrev pub begun : Flat → Held
-begun start = held (opening start) []
+begun start = held (opening start) no_plan
 
 -- the lines in front of the last were carried out, and the machine is on the way through the steps of the last one
 pub record IsStepping (g : Terms) (h : Held) (lines : List Exchange) (spot : Spot) : Type 0 where
@@ -71,9 +77,10 @@ pub record IsPrompting (g : Terms) (h : Held) (lines : List Exchange) (spot : Sp
 abbrev pub IsBehind : Terms → Held → List Exchange → (more : List ℕ) → Spot → Type 0
 IsBehind g h lines more spot = spot ≡ spot_at (held_after g h lines).session (transcript g h lines ++ more)
 
--- where a session stops that ends so
+-- where a session stops that ends so, but for one whose last line asks for the state to be saved
 abbrev pub StopsAt : SessionEnd → Outside → Terms → Held → List Exchange → Spot → Type 0
 StopsAt end.Quit outside g h lines spot = IsBehind g h lines [] spot
+StopsAt end.Save outside g h lines spot = ⊥
 StopsAt end.Read outside g h lines spot = IsBehind g h lines (prompt g.prompts) spot
 StopsAt end.Lines outside g h lines spot = IsBehind g h lines [] spot
 StopsAt end.Turns outside g h lines spot = IsOutOf outside g h lines spot
@@ -84,6 +91,7 @@ StopsAt end.LineFault outside g h lines spot = IsBehind g h lines (prompt g.prom
 -- what failed
 abbrev pub Causes : SessionEnd → Outside → Change (List Text) → Type 0
 Causes end.Quit outside lines = Unit {0}
+Causes end.Save outside lines = ⊥
 Causes end.Read outside lines = Unit {0}
 Causes end.Lines outside lines = Unit {0}
 Causes end.Turns outside lines = Unit {0}
@@ -129,10 +137,50 @@ pub record EndedUntold (e : SessionEnd) (outside : Outside) (lines : Change (Lis
   pub answer : status ≡ answer_of e
   pub unrecorded : grown.recorded ≡ []
 
+-- what a session has written in the end whose state was saved: the guest's output and the replies, the state, and the report
+abbrev pub saving_output : Session → (replies : List ℕ) → (state : Channels) → Last → Channels
+saving_output s replies state why =
+    append (writes s.machine.output replies)
+    (append state (only Report (report s.machine.core why s.steps (units_done (At s.machine)) s.machine.taken [])))
+
+-- what is put on Record: the state, unless the machine has ended
+abbrev pub state_unless : Option Ending → Place → (steps : ℕ) → Channels
+state_unless None place steps = state_at place steps
+state_unless (Some e) place steps = nothing
+
+-- The state of a machine was saved that stands for this place and has ended so or hasn't, and the report was written; or a call of the page file failed
+-- behind a part of the state.
+abbrev pub SavesBy : Option Ending → Change BlockFile → Engine → Place → Status → Channels → Type 0
+SavesBy ended pages m place status grown =
+    ((status ≡ Done) × (grown ≡ append (state_unless ended place m.steps) (only Report (machine_report m (last_of ended) []))))
+    ⊎ (HasFailed pages × (status ≡ PageFault) × ((part : Channels) × (rest : Channels) × (append part rest ≡ state_unless ended place m.steps) × (grown ≡ append part (only Report (machine_report m last.PageFault [])))))
+
+-- so was the state between two lines
+abbrev pub SavesHere : Outside → Session → (replies : List ℕ) → Status → Channels → Type 0
+SavesHere outside s replies status grown =
+    ((status ≡ Done) × (grown ≡ saving_output s replies (state_unless s.machine.ending (At s.machine) s.steps) (last_of s.machine.ending)))
+    ⊎ (HasFailed outside.pages × (status ≡ PageFault) × ((part : Channels) × (rest : Channels) × (append part rest ≡ state_unless s.machine.ending (At s.machine) s.steps) × (grown ≡ saving_output s replies part last.PageFault)))
+
+-- Lines were taken, each with pages, and the last of them asks for the state to be saved: it is, as it stands behind all of them.
+pub record Saved (outside : Outside) (lines : Change (List Text)) (start : Flat) (g : Terms) (status : Status) (grown : Channels) : Type 0 where
+  pub given : List Exchange
+  pub took : Took end.Save lines.before.told lines.after.told (lines_of given)
+  pub asked : Asked end.Save given
+  pub saves : SavesHere outside (held_after g (begun start) given).session (transcript g (begun start) given) status grown
+
+-- So it does; of what it wrote nothing is said.
+pub record SavedUntold (outside : Outside) (lines : Change (List Text)) (status : Status) (grown : Channels) : Type 0 where
+  pub given : List Exchange
+  pub took : Took end.Save lines.before.told lines.after.told (lines_of given)
+  pub asked : Asked end.Save given
+  pub answer : AnswersSave outside.pages Done status grown
+
 -- It went so; where the page file doesn't tell its contents, the flat machine isn't spoken of.
 abbrev pub WentFrom : Option BlockFile → Outside → Change (List Text) → Flat → Terms → Status → Channels → Type 0
-WentFrom None outside lines start g status grown = (e : SessionEnd) × EndedUntold e outside lines status grown
-WentFrom (Some file) outside lines start g status grown = (e : SessionEnd) × Ended e outside lines start g status grown
+WentFrom None outside lines start g status grown =
+    ((e : SessionEnd) × EndedUntold e outside lines status grown) ⊎ SavedUntold outside lines status grown
+WentFrom (Some file) outside lines start g status grown =
+    ((e : SessionEnd) × Ended e outside lines start g status grown) ⊎ Saved outside lines start g status grown
 
 abbrev pub Went : Outside → Change (List Text) → Flat → Terms → Status → Channels → Type 0
 Went outside lines start g status grown = WentFrom outside.pages.before.told outside lines start g status grown

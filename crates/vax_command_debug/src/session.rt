@@ -2,8 +2,10 @@
 ghost use Rattle.std.specs.Prelude.{◌≡◌, ◌≤◌, ◌<◌, ◌^◌, ◌-◌, ℕ, [], length};
 ghost use Rattle.vax_outside.specs.Channels.{only};
 ghost use Rattle.vax_outside.specs.declared.traits.Chan.TheVariants.{Report};
+ghost use Rattle.vax_flat.specs.Parts.{Place};
 ghost use Rattle.vax_flat.specs.Step.{Flat};
 ghost use Rattle.vax_machine.specs.Console.{IsBetween};
+ghost use Rattle.vax_machine.specs.Machine.{Means};
 ghost use Rattle.vax_machine.specs.Meaning.{engine};
 ghost use Rattle.vax_console.specs.Transcript.{last_of};
 ghost use Rattle.vax_debug_session.specs.Holding.{terms};
@@ -13,12 +15,13 @@ ghost use Rattle.vax_command.specs.Ends.{Admits, Ends, EndsSo};
 ghost use Rattle.vax_command.specs.Fresh.{IsFresh, machine_report};
 ghost use Rattle.vax_command.specs.Loaded.{AreSound, loaded_seen};
 ghost use Rattle.vax_command.specs.Reading.{file_limit};
-ghost use Rattle.vax_command_debug.specs.Course.{Went};
+ghost use Rattle.vax_command.specs.Saving.{AnswersSave};
+ghost use Rattle.vax_command_debug.specs.Course.{SavesBy, Went};
 ghost use Rattle.vax_command_debug.specs.Debugging.{Debugged, given};
 
 use std::alloc::Global;
 use vax_cli::Options;
-use vax_command::{Programs, Status, prepare, refuse, report};
+use vax_command::{Programs, Status, prepare, refuse, report, save_and_report};
 use vax_debug_names::Symbol;
 use vax_debug_session::{SessionEnd, Setting, hold};
 use vax_flat::Ending;
@@ -60,6 +63,22 @@ fn report_here<K: Sink>(machine: &Machine, meant: Status, sink: &mut K) -> Statu
     report(machine, last_of(machine.ended()), &[], meant, sink)
 }
 
+/// Saves the state of a machine that stands between two lines, unless it has ended, and writes the report on it.
+fn save_here<K: Sink, F: PageFile>(machine: Machine, sink: &mut K, pages: &mut F) -> Status
+    ensures saves { (place : Place) → Means (engine machine) (F.contents pages.old) place →
+        EndsSo (change K.faults K.contents sink.old sink.new)
+        (SavesBy (engine machine).ended (change F.faults F.contents pages.old pages.new)
+        (engine machine) place) result }
+    ensures answers { EndsSo (change K.faults K.contents sink.old sink.new)
+        (AnswersSave (change F.faults F.contents pages.old pages.new) Status.Done) result }
+    ensures failed { Admits (F.faults pages.old) (F.faults pages.new) Status.PageFault result }
+{
+    match machine.ended() {
+        None => save_and_report(machine, Last::Steps, Status::Done, sink, pages),
+        Some(_) => report_here(&machine, Status::Done, sink),
+    }
+}
+
 /// Holds a session on a machine, and writes the report at its end.
 fn hold_session<L: Lines, K: Sink, F: PageFile>(
     machine: Machine,
@@ -84,6 +103,7 @@ fn hold_session<L: Lines, K: Sink, F: PageFile>(
     let mut machine = machine;
     match hold(lines, prompts, setting, &mut machine, pages, sink) {
         SessionEnd::Quit => report_here(&machine, Status::Done, sink),
+        SessionEnd::Save => save_here(machine, sink, pages),
         SessionEnd::Read => report_here(&machine, Status::Done, sink),
         SessionEnd::Lines => report_here(&machine, Status::Done, sink),
         SessionEnd::Turns => report(&machine, Last::Turns, &[], Status::Turns, sink),

@@ -22,14 +22,14 @@ use Rattle.vax_machine.specs.declared.event.RunEnd.TheVariants as run_end
 use Rattle.vax_console.specs.Transcript.{Session, advanced, stepped}
 use Rattle.vax_console.specs.Ends.{Advances, IsAt, IsOnTheWay, IsOutOfTurns, IsPartOf, IsWithin, Scene, answer_of, session_on, writes}
 use Rattle.vax_console.proofs.Replying.{changes_once_then}
-use Rattle.vax_console.proofs.Requested.{same_core, same_ending}
 use Rattle.vax_console.proofs.Running.{advances_by}
 use Rattle.vax_debug.specs.Attempts.{IsUnderway}
 use Rattle.vax_debug.specs.Sessions.{Arrives, Counts, IsHere, Origin}
 use Rattle.vax_debug.specs.declared.failure.Failure.{Failure}
 use Rattle.vax_debug.specs.declared.failure.Failure.TheVariants as failure
 use Rattle.vax_debug.proofs.Travelling.{advanced_behind, few_steps, none_advanced, one_advanced, only_one, travel_begins, travel_ends, travel_goes, travel_halts}
-use Rattle.vax_debug.specs.Travel.{Stops, halts, has_halted, travelled}
+use Rattle.vax_debug.specs.Steps.{Halts, Steps}
+use Rattle.vax_debug.specs.Travel.{Stops, has_halted, travelled}
 
 -- what is sent behind what was sent and replied
 
@@ -176,24 +176,40 @@ comes_first count stops o s replies v h = record {
 pub has_number : (count i : ℕ) (s : Session) → i < count → s.steps + count < 2 ^ 64 → (advanced i s).steps + 1 < 2 ^ 64
 has_number count i s below few = let before = few_steps i s in omega (arith, before, below, few)
 
--- what the machine tells of whether it is to stop
-halted_is : (stops : Stops) (o : Origin) (t : Session) (replies : List ℕ) (v : Scene) (b : Bool) → IsHere o t replies v → b ≡ halts stops v.machine.ended v.machine.cpu.core → has_halted stops t ≡ b
-halted_is stops o t replies v b h told =
-    let core = same_core v.machine v.file t.machine h.at.means in
-    let ending = same_ending v.machine v.file t.machine h.at.means in
-    (λ k. halts stops (ending k) (core k)) ∙ sym told
-
-pub comes_on : (count i : ℕ) (stops : Stops) (o : Origin) (s : Session) (replies : List ℕ) (v w : Scene) (b : Bool) → i < count → HasCome count i stops o s replies v → IsHere o (stepped (advanced i s)) replies w →
-    b ≡ halts stops w.machine.ended w.machine.cpu.core → b ≡ false → HasCome count (i + 1) stops o s replies w
-comes_on count i stops o s replies v w b below k h told going = record {
+pub comes_on : (count i : ℕ) (stops : Stops) (o : Origin) (s : Session) (replies : List ℕ) (w : Scene) (b : Bool) → i < count → travelled count stops s ≡ travelled (count - i) stops (advanced i s) → IsHere o (stepped (advanced i s)) replies w →
+    b ≡ has_halted stops (stepped (advanced i s)) → b ≡ false → HasCome count (i + 1) stops o s replies w
+comes_on count i stops o s replies w b below rest h told going = record {
   here = subst (λ (t : Session). IsHere o t replies w) (one_advanced i s) h;
-  rest = travel_goes count i stops s below k.rest (halted_is stops o (stepped (advanced i s)) replies w b h told ∙ going);
+  rest = travel_goes count i stops s below rest (sym told ∙ going);
 }
 
-pub comes_to_stop : (count i : ℕ) (stops : Stops) (o : Origin) (s : Session) (replies : List ℕ) (v w : Scene) (b : Bool) → i < count → HasCome count i stops o s replies v → IsHere o (stepped (advanced i s)) replies w →
-    b ≡ halts stops w.machine.ended w.machine.cpu.core → b ≡ true → IsHere o (travelled count stops s) replies w
-comes_to_stop count i stops o s replies v w b below k h told halted =
-    subst (λ (t : Session). IsHere o t replies w) (sym (travel_halts count i stops s below k.rest (halted_is stops o (stepped (advanced i s)) replies w b h told ∙ halted))) h
+pub comes_to_stop : (count i : ℕ) (stops : Stops) (o : Origin) (s : Session) (replies : List ℕ) (w : Scene) (b : Bool) → i < count → travelled count stops s ≡ travelled (count - i) stops (advanced i s) → IsHere o (stepped (advanced i s)) replies w →
+    b ≡ has_halted stops (stepped (advanced i s)) → b ≡ true → IsHere o (travelled count stops s) replies w
+comes_to_stop count i stops o s replies w b below rest h told halted =
+    subst (λ (t : Session). IsHere o t replies w) (sym (travel_halts count i stops s below rest (sym told ∙ halted))) h
+
+-- behind a step it is on the way through it
+pub within_step : (o : Origin) (s : Session) (replies : List ℕ) (v : Scene) → IsHere o (stepped s) replies v → IsWithin o.flat s 1 replies v.machine v.file o.channels v.sink
+within_step o s replies v h = record {
+  place = At (stepped s).machine;
+  goes = record {
+    count = 1;
+    few = omega arith;
+    steps = h.at.steps ∙ ap (λ (z : Session). z.steps) (sym (only_one s));
+    goes = ap (λ (z : Session). z.machine) (sym (only_one s));
+  };
+  means = h.at.means;
+  sent = h.at.sent;
+  output = h.at.output;
+  wrote = h.at.wrote;
+}
+
+-- whether to stop is told behind a step
+pub steps_by : (r : Result Bool Failure) (turns : ℕ) (stops : Stops) (o : Origin) (s : Session) (replies : List ℕ) (v : Scene) → Halts r stops o (stepped s) replies v → Steps r turns stops o s replies v
+steps_by (Ok b) turns stops o s replies v h = h
+steps_by (Err failure.Turns) turns stops o s replies v h = absurd h
+steps_by (Err failure.PageFault) turns stops o s replies v h = within_step o s replies v h
+steps_by (Err failure.WriteFault) turns stops o s replies v h = absurd h
 
 pub comes_to_end : (count i : ℕ) (stops : Stops) (o : Origin) (s : Session) (replies : List ℕ) (v : Scene) → count ≤ i → HasCome count i stops o s replies v → IsHere o (travelled count stops s) replies v
 comes_to_end count i stops o s replies v all k = subst (λ (t : Session). IsHere o t replies v) (sym (travel_ends count i stops s all k.rest)) k.here

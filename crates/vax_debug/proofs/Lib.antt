@@ -7,3 +7,4 @@ pub mod Reported
 pub mod Leading
 pub mod Attempting
 pub mod Statuses
+pub mod Watching

@@ -10,21 +10,22 @@ use Rattle.vax_console.specs.Ends.{Scene}
 use Rattle.vax_debug.specs.Travel.{fp_of, pc_of, sp_of, stops_at, travelled}
 use Rattle.vax_debug.specs.Sessions.{IsHere, Origin}
 use Rattle.vax_debug.specs.declared.breaks.Goal.{Goal}
+use Rattle.vax_debug.specs.declared.watches.Seen.{Seen}
 
 -- at most so many steps, but for the limit
-abbrev pub stepped_on : (limit count : ℕ) → List ℕ → Session → Session
-stepped_on limit count breaks s = travelled (min count (left limit s)) (stops_at breaks None) s
+abbrev pub stepped_on : (limit count : ℕ) → List ℕ → List Seen → Session → Session
+stepped_on limit count breaks seen s = travelled (min count (left limit s)) (stops_at breaks seen None) s
 
 -- up to the limit
-abbrev pub gone_on : (limit : ℕ) → List ℕ → Session → Session
-gone_on limit breaks s = travelled (left limit s) (stops_at breaks None) s
+abbrev pub gone_on : (limit : ℕ) → List ℕ → List Seen → Session → Session
+gone_on limit breaks seen s = travelled (left limit s) (stops_at breaks seen None) s
 
 abbrev pub goal_at : (address least : ℕ) → Goal
 goal_at address least = record { address = address; least = least }
 
 -- up to a goal
-abbrev pub gone_to : (limit : ℕ) → Goal → List ℕ → Session → Session
-gone_to limit goal breaks s = travelled (left limit s) (stops_at breaks (Some goal)) s
+abbrev pub gone_to : (limit : ℕ) → Goal → List ℕ → List Seen → Session → Session
+gone_to limit goal breaks seen s = travelled (left limit s) (stops_at breaks seen (Some goal)) s
 
 -- the bytes up to the first that isn't there
 abbrev pub and_then : Option ℕ → List ℕ → List ℕ
@@ -78,13 +79,13 @@ over_count_to limit (Some goal) s = left limit s
 abbrev pub over_count : (limit : ℕ) → Session → ℕ
 over_count limit s = over_count_to limit (call_goal s.machine) s
 
-abbrev pub over_to : (limit : ℕ) → Option Goal → List ℕ → Session → Session
-over_to limit None breaks s = stepped_on limit 1 breaks s
-over_to limit (Some goal) breaks s = gone_to limit goal breaks s
+abbrev pub over_to : (limit : ℕ) → Option Goal → List ℕ → List Seen → Session → Session
+over_to limit None breaks seen s = stepped_on limit 1 breaks seen s
+over_to limit (Some goal) breaks seen s = gone_to limit goal breaks seen s
 
 -- one step, or all of those of a call
-abbrev pub stepped_over : (limit : ℕ) → List ℕ → Session → Session
-stepped_over limit breaks s = over_to limit (call_goal s.machine) breaks s
+abbrev pub stepped_over : (limit : ℕ) → List ℕ → List Seen → Session → Session
+stepped_over limit breaks seen s = over_to limit (call_goal s.machine) breaks seen s
 
 -- what is told of the flat machine of each session
 abbrev pub TellsFrom : {T : Type 0} → Scene → (Flat → T) → T → Type 0

@@ -5,3 +5,6 @@ pub mod Values
 pub mod Pages
 pub mod Attempts
 pub mod Status
+pub mod Watches
+pub mod Plans
+pub mod Steps

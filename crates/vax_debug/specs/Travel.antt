@@ -2,17 +2,20 @@
 use Rattle.std.specs.Prelude.{ℕ, zero, suc, ◌≡◌, ◌<◌, ◌≤◌, ◌==◌, ◌||◌, ◌&&◌, not, nat_le, Bool, true, false, if◌then◌else◌, Option, None, Some, is_some, List, slice_index}
 use Rattle.std.specs.List.{filter, list_any}
 use Rattle.vax_word.specs.declared.Core.{Core}
-use Rattle.vax_flat.specs.declared.Ending.{Ending}
+use Rattle.vax_flat.specs.Step.{Flat}
 use Rattle.vax_console.specs.Transcript.{Session, advanced, stepped}
+use Rattle.vax_debug.specs.Watches.{is_changed}
 use Rattle.vax_debug.specs.declared.breaks.Goal.{Goal}
+use Rattle.vax_debug.specs.declared.watches.Seen.{Seen}
 
--- where steps stop: before steps at these addresses, and at a goal
+-- where steps stop: before steps at these addresses, where a byte isn't as it was seen, and at a goal
 pub record Stops : Type 0 where
   pub breaks : List ℕ
+  pub seen : List Seen
   pub goal : Option Goal
 
-abbrev pub stops_at : List ℕ → Option Goal → Stops
-stops_at breaks goal = record { breaks = breaks; goal = goal }
+abbrev pub stops_at : List ℕ → List Seen → Option Goal → Stops
+stops_at breaks seen goal = record { breaks = breaks; seen = seen; goal = goal }
 
 abbrev pub pc_of : Core → ℕ
 pc_of core = slice_index core.regs 15
@@ -36,13 +39,14 @@ abbrev pub is_stop : Stops → Core → Bool
 is_stop stops core = list_any (λ a. a == pc_of core) stops.breaks || reaches stops.goal core
 
 -- it has ended, or is to stop here
-abbrev pub halts : Stops → Option Ending → Core → Bool
-halts stops ending core = is_some ending || is_stop stops core
+abbrev pub halts : Stops → Flat → Bool
+halts stops m = (is_some m.ending || is_stop stops m.core) || list_any (is_changed m) stops.seen
 
 abbrev pub has_halted : Stops → Session → Bool
-has_halted stops s = halts stops s.machine.ending s.machine.core
+has_halted stops s = halts stops s.machine
 
--- At most so many steps, up to the first behind which it has ended or is to stop. So the first is made where the session stands at a stop.
+-- At most so many steps, up to the first behind which it has ended or is to stop. So the first is made where the session stands at a stop. Where the bytes
+-- are those from before the first step, it stops behind the first step that changes one: up to there they are those from before each step.
 unfoldable pub travelled : ℕ → Stops → Session → Session
 travelled zero stops s = s
 travelled (suc count) stops s = if has_halted stops (stepped s) then stepped s else travelled count stops (stepped s)

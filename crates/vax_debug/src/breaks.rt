@@ -1,7 +1,9 @@
 //! Where steps stop.
-ghost use Rattle.std.specs.Prelude.{◌≡◌};
+ghost use Rattle.std.specs.Prelude.{◌≡◌, List};
 ghost use Rattle.vax_debug.specs.Travel.{reaches, is_stop, stops_at};
+ghost use Rattle.vax_debug.specs.declared.watches.Seen.{Seen};
 
+use crate::watches::{Snapshot, Watches};
 use arrayvec::ArrayVec;
 use std::marker::Model;
 use vax_word::Core;
@@ -87,6 +89,35 @@ impl Breaks {
     }
 }
 
+/// Where steps are to stop, and what is watched.
+#[derive(Drop)]
+pub struct Plan {
+    pub breaks: Breaks,
+    pub watches: Watches,
+}
+
+impl Plan {
+    ghost use Rattle.std.specs.Prelude.{◌≡◌};
+    ghost use Rattle.vax_debug.specs.Plans.{no_plan};
+
+    /// No address, and no watch.
+    pub fn new() -> Plan
+        ensures { result ≡ no_plan }
+    {
+        Plan {
+            breaks: Breaks::new(),
+            watches: Watches::new(),
+        }
+    }
+}
+
+/// Where steps stop: at these addresses, and where a watched byte isn't as it was seen.
+#[derive(Clone, Copy)]
+pub struct Marks<'a> {
+    pub breaks: &'a Breaks,
+    pub seen: &'a Snapshot,
+}
+
 /// Whether a goal is reached.
 fn reaches(goal: Option<Goal>, core: &Core) -> bool
     ensures { result ≡ reaches goal core.now }
@@ -99,7 +130,7 @@ fn reaches(goal: Option<Goal>, core: &Core) -> bool
 
 /// Whether steps are to stop here: PC is one of the addresses, or the goal is reached.
 pub(crate) fn is_stop(breaks: &Breaks, goal: Option<Goal>, core: &Core) -> bool
-    ensures { result ≡ is_stop (stops_at breaks.now goal) core.now }
+    ensures { (seen : List Seen) → result ≡ is_stop (stops_at breaks.now seen goal) core.now }
 {
     breaks.has(core.regs[15]) || reaches(goal, core)
 }

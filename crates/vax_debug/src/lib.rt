@@ -14,13 +14,15 @@ mod memory;
 mod status;
 mod travel;
 mod values;
+mod watches;
 
 pub use crate::attempts::attempt;
-pub use crate::breaks::{Breaks, Goal};
+pub use crate::breaks::{Breaks, Goal, Marks, Plan};
 pub use crate::calls::{go, go_to, over, step, until};
 pub use crate::failure::Failure;
 pub use crate::frames::{frame_goal, longword};
 pub use crate::laws::travels_are_steps;
 pub use crate::memory::{deposit, deposit_register, evict, examine};
-pub use crate::status::deposit_status;
+pub use crate::status::{deposit_field, deposit_status};
 pub use crate::values::evaluate;
+pub use crate::watches::{Bytes, Seen, Snapshot, Watch, Watches, look};

@@ -1,13 +1,14 @@
 //! The processor status longword, as it is changed.
-ghost use Rattle.std.specs.Prelude.{◌≡◌, ◌<◌, Option};
+ghost use Rattle.std.specs.Prelude.{◌≡◌, ◌<◌, ◌≤◌, ◌^◌, Option};
 ghost use Rattle.vax_outside.specs.Channels.{Channels};
 ghost use Rattle.vax_flat.specs.Delivery.{on_interrupt_stack, stack_in_use};
 ghost use Rattle.vax_flat.specs.System.{has_reserved_bits};
 ghost use Rattle.vax_flat.specs.State.{State};
 ghost use Rattle.vax_machine.specs.Meaning.{engine};
 ghost use Rattle.vax_console.specs.Ends.{scene};
-ghost use Rattle.vax_debug.specs.Status.{StatusFrom, is_mixed, is_status, with_stack_of};
+ghost use Rattle.vax_debug.specs.Status.{FieldFrom, StatusFrom, is_mixed, is_status, lowest_bit, width, with_field, with_stack_of};
 
+use vax_debug_words::Field;
 use vax_machine::Machine;
 use vax_outside::PageFile;
 use vax_word::{Core, Psl};
@@ -96,4 +97,66 @@ pub fn deposit_status<F: PageFile>(value: u32, machine: &mut Machine, file: &F) 
     } else {
         false
     }
+}
+
+/// What a field's lowest bit counts for.
+fn unit(field: Field) -> u64
+    ensures exact { result ≡ 2 ^ lowest_bit field }
+    ensures some { 1 ≤ result }
+    ensures within { result ≤ 0x4000_0000 }
+{
+    match field {
+        Field::Mode => 0x100_0000,
+        Field::Previous => 0x40_0000,
+        Field::Priority => 0x1_0000,
+        Field::InterruptStack => 0x400_0000,
+        Field::FirstPartDone => 0x800_0000,
+        Field::TracePending => 0x4000_0000,
+        Field::DecimalOverflow => 0x80,
+        Field::FloatingUnderflow => 0x40,
+        Field::IntegerOverflow => 0x20,
+        Field::Trace => 0x10,
+        Field::Negative => 0x8,
+        Field::Zero => 0x4,
+        Field::Overflow => 0x2,
+        Field::Carry => 0x1,
+    }
+}
+
+/// How many values a field has.
+fn value_count(field: Field) -> u64
+    ensures exact { result ≡ 2 ^ width field }
+    ensures some { 1 ≤ result }
+{
+    match field {
+        Field::Mode => 4,
+        Field::Previous => 4,
+        Field::Priority => 32,
+        _ => 2,
+    }
+}
+
+/// The status with another value of a field.
+fn with_field(field: Field, value: u32, psl: Psl) -> u32
+    ensures { result ≡ with_field field value psl }
+{
+    let bits = u64::from(psl.0);
+    let unit = unit(field);
+    let count = value_count(field);
+    let above = bits / unit / count * count + u64::from(value);
+    ((above * unit + bits % unit) % 0x1_0000_0000) as u32
+}
+
+/// Puts a value into a field of the processor status longword, if the field has such a value and the status is one that a program may have. The other fields stay. It
+/// answers false, and changes nothing, where it isn't, and where a string instruction is open.
+pub fn deposit_field<F: PageFile>(field: Field, value: u32, machine: &mut Machine, file: &F) -> bool
+    ensures { (sink : Option Channels) →
+        FieldFrom (scene (engine machine.old) (F.contents file.now) sink)
+        (scene (engine machine.new) (F.contents file.now) sink) field value result }
+{
+    if value_count(field) <= u64::from(value) {
+        return false;
+    }
+    let status = with_field(field, value, machine.core().psl);
+    deposit_status(status, machine, file)
 }

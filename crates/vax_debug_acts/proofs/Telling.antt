@@ -5,17 +5,19 @@ use Rattle.vax_outside.specs.Channels.{Channels, Grew, GrewByPrefix, only}
 use Rattle.vax_outside.specs.declared.faults.Failures.{Failures}
 use Rattle.vax_outside.specs.declared.traits.Chan.TheVariants.{Report}
 use Rattle.vax_outside.proofs.Counting.{rose_then}
-use Rattle.vax_outside.proofs.Growth.{grew_more}
+use Rattle.vax_outside.proofs.Growth.{grew_more, report_first, report_grew, report_last}
 use Rattle.vax_machine.specs.declared.engine.Engine.{Engine}
 use Rattle.vax_flat.specs.Parts.{At}
 use Rattle.vax_console.specs.Transcript.{Session, advanced}
 use Rattle.vax_console.specs.Ends.{ChangesOnce, IsAt, IsWithin, OnlyReplied, Scene, scene, writes}
 use Rattle.vax_debug.specs.Sessions.{Arrives, Counts, IsHere, Origin}
+use Rattle.vax_debug.specs.declared.breaks.Plan.{Plan}
+use Rattle.vax_debug.specs.declared.watches.Watch.{Watch}
 use Rattle.vax_debug.specs.declared.failure.Failure.{Failure}
 use Rattle.vax_debug.specs.declared.failure.Failure.TheVariants as failure
 use Rattle.vax_debug.proofs.Reported.{prefix_only, prefix_report, report_only}
 use Rattle.vax_debug_acts.specs.Acting.{Act, Acts, IsToldInPart, Replies, Tells, act}
-use Rattle.vax_debug_acts.specs.Acts.{by_address, by_value, no_value_line}
+use Rattle.vax_debug_acts.specs.Acts.{broken_at, by_address, by_value, no_value_line, watch, watched_at, with_break, with_watch}
 
 -- what is written behind what was sent and replied
 
@@ -70,6 +72,20 @@ reply_only (Err failure.Turns) before now a b text p = absurd p
 reply_only (Err failure.PageFault) before now a b text p = absurd p
 reply_only (Err failure.WriteFault) before now a b text p = prefix_only a b text p.2
 
+-- a reply behind another
+pub replies_then : (r : Result (Unit {0}) Failure) (x : Unit {0}) (before mid now : Failures) (a b c : Option Channels) (text more : List ℕ) → Replies (Ok x) before mid a b text → Replies r mid now b c more → Replies r before now a c (text ++ more)
+replies_then (Ok y) x before mid now a b c text more p q = (q.0 ∙ p.0, report_grew a b c text more p.1 q.1)
+replies_then (Err failure.Turns) x before mid now a b c text more p q = absurd q
+replies_then (Err failure.PageFault) x before mid now a b c text more p q = absurd q
+replies_then (Err failure.WriteFault) x before mid now a b c text more p q =
+    (let still = p.0 in let later = q.0 in omega (arith, still, later), rose_then p.0 q.1, report_last a b c text more p.1 q.2)
+
+-- or none, where it wasn't written
+pub replies_first : (e : Failure) (before now : Failures) (a b : Option Channels) (text more : List ℕ) → Replies (Err e) before now a b text → Replies (Err e) before now a b (text ++ more)
+replies_first failure.Turns before now a b text more p = absurd p
+replies_first failure.PageFault before now a b text more p = absurd p
+replies_first failure.WriteFault before now a b text more p = (p.0, p.1, report_first a b text more p.2)
+
 -- what a request comes to
 
 -- all was done but a part of the reply
@@ -122,11 +138,18 @@ pub ok_if : {T E P : Type 0} (r : Result T E) → P → OnOk r P
 ok_if (Ok x) p = p
 ok_if (Err e) p = tt
 
-pub breaks_at : (r : Result (Unit {0}) Failure) (n : ℕ) (found : Option ℕ) (breaks new : List ℕ) (change : ℕ → List ℕ) → Some n ≡ found → new ≡ change n → OnOk r (new ≡ by_address found breaks change)
+pub breaks_at : (r : Result (Unit {0}) Failure) (n : ℕ) (found : Option ℕ) (breaks new : Plan) (change : ℕ → Plan) → Some n ≡ found → new ≡ change n → OnOk r (new ≡ by_address found breaks change)
 breaks_at r n found breaks new change is e = ok_if r (subst (λ (z : Option ℕ). new ≡ by_address z breaks change) is e)
 
-pub breaks_same : (r : Result (Unit {0}) Failure) (found : Option ℕ) (breaks : List ℕ) (change : ℕ → List ℕ) → None ≡ found → OnOk r (breaks ≡ by_address found breaks change)
+pub breaks_same : (r : Result (Unit {0}) Failure) (found : Option ℕ) (breaks : Plan) (change : ℕ → Plan) → None ≡ found → OnOk r (breaks ≡ by_address found breaks change)
 breaks_same r found breaks change is = ok_if r (subst (λ (z : Option ℕ). breaks ≡ by_address z breaks change) is refl)
+
+-- addresses or watches are others
+pub broken_is : (plan : Plan) (new : List ℕ) (address : ℕ) → new ≡ with_break plan.breaks address → record plan { breaks = new } ≡ broken_at plan address
+broken_is plan new address is = ap (λ (z : List ℕ). record plan { breaks = z }) is
+
+pub watched_is : (plan : Plan) (new : List Watch) (count address : ℕ) → new ≡ with_watch plan.watches (watch count address) → record plan { watches = new } ≡ watched_at plan count address
+watched_is plan new count address is = ap (λ (z : List Watch). record plan { watches = z }) is
 
 changes_once_then : (before mid now : Failures) → mid.count ≡ before.count → ChangesOnce mid now → ChangesOnce before now
 changes_once_then before mid now still h = λ n. rose_then still (h (λ e. n (e ∙ still)))

@@ -8,6 +8,7 @@ use Rattle.vax_machine.specs.declared.event.Limits.{Limits}
 use Rattle.vax_console.specs.Transcript.{Session}
 use Rattle.vax_console.specs.Ends.{IsAt, IsOutOfTurns, IsWithin, Scene}
 use Rattle.vax_debug.specs.Sessions.{IsHere, IsLost, Origin}
+use Rattle.vax_debug.specs.declared.breaks.Plan.{Plan}
 use Rattle.vax_debug.specs.declared.failure.Failure.{Failure}
 use Rattle.vax_debug.specs.declared.failure.Failure.TheVariants as failure
 
@@ -54,10 +55,10 @@ abbrev pub ActsFrom : Scene → Scene → Result (Unit {0}) Failure → Limits �
 ActsFrom before after result limits asked =
     (o : Origin) (s : Session) (replies : List ℕ) → IsHere o s replies before → Acts result limits.turns (asked s) o s replies after
 
--- and the addresses at which steps stop are these
-abbrev pub BreaksFrom : Scene → Result (Unit {0}) Failure → List ℕ → (Session → List ℕ) → Type 0
-BreaksFrom before result breaks asked =
-    (o : Origin) (s : Session) (replies : List ℕ) → IsHere o s replies before → OnOk result (breaks ≡ asked s)
+-- and where steps stop and what is watched is this
+abbrev pub BreaksFrom : Scene → Result (Unit {0}) Failure → Plan → (Session → Plan) → Type 0
+BreaksFrom before result plan asked =
+    (o : Origin) (s : Session) (replies : List ℕ) → IsHere o s replies before → OnOk result (plan ≡ asked s)
 
 -- a text was written, or a prefix of it where a write failed
 abbrev pub Replies : Result (Unit {0}) Failure → Failures → Failures → Option Channels → Option Channels → List ℕ → Type 0

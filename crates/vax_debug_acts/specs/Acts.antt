@@ -11,15 +11,20 @@ use Rattle.vax_console.specs.Transcript.{Session, left, may_deposit, with_machin
 use Rattle.vax_debug.specs.Calls.{frame_goal, goal_at, gone_on, gone_to, over_count, stepped_on, stepped_over}
 use Rattle.vax_debug.specs.Sessions.{session_with_bytes}
 use Rattle.vax_debug.specs.Travel.{pc_of, without}
+use Rattle.vax_debug.specs.Watches.{are_other, seen_in, unwatched}
 use Rattle.vax_debug.specs.declared.breaks.Goal.{Goal}
+use Rattle.vax_debug.specs.declared.breaks.Plan.{Plan}
+use Rattle.vax_debug.specs.declared.watches.Seen.{Seen}
+use Rattle.vax_debug.specs.declared.watches.Watch.{Watch}
 use Rattle.vax_debug_words.specs.declared.request.Expression.{Expression}
 use Rattle.vax_debug_words.specs.declared.request.Size.{Size}
+use Rattle.vax_debug_words.specs.declared.request.Span.{Span}
 use Rattle.vax_debug_words.specs.declared.request.Size.TheVariants as size
 use Rattle.vax_debug_words.specs.declared.request.Value.{Value}
 use Rattle.vax_debug_words.specs.declared.request.Value.TheVariants as value
 use Rattle.vax_debug_names.specs.declared.Symbol.{Symbol}
 use Rattle.vax_debug.specs.Values.{evaluated}
-use Rattle.vax_debug_replies.specs.Stops.{break_line, stop}
+use Rattle.vax_debug_replies.specs.Stops.{break_line, change_line, here, reason, watch_line}
 use Rattle.vax_debug_acts.specs.Acting.{Act, act}
 
 -- replies of one line
@@ -38,6 +43,10 @@ put_line put = if put then done_line else line (codes "?NO SUCH BYTES")
 -- there are as many addresses as there may be
 abbrev pub full_line : List ℕ
 full_line = line (codes "?NO MORE THAN 16 BREAKS")
+
+-- there are as many watches as there may be
+abbrev pub full_watches_line : List ℕ
+full_watches_line = line (codes "?NO MORE THAN 16 WATCHES")
 
 -- memory has no saved PC of a frame
 abbrev pub no_frame_line : List ℕ
@@ -63,39 +72,72 @@ why_stopped None at_break at_limit =
 abbrev pub why : (limit : ℕ) → List ℕ → Session → Option Last
 why limit breaks s = why_stopped s.machine.ending (list_any (λ a. a == pc_of s.machine.core) breaks) (nat_le limit s.steps)
 
--- where and why it stopped
-unfoldable pub stop_reply : (limit : ℕ) → List Symbol → List ℕ → Session → List ℕ
-stop_reply limit symbols breaks s =
-    stop (why limit breaks s) symbols (pc_of s.machine.core) (memory_from s.machine.memory (pc_of s.machine.core) 64)
+-- the line of watched bytes, where they are others now
+abbrev pub change_if : List Symbol → (before after : Seen) → List ℕ
+change_if symbols before after =
+    if are_other before.cells after.cells then change_line symbols before.address before.cells after.cells else []
+
+-- those of all that is watched, in its order
+unfoldable pub changes : List Symbol → (before after : List Seen) → List ℕ
+changes symbols [] after = []
+changes symbols (b ∷ before) [] = []
+changes symbols (b ∷ before) (a ∷ after) = change_if symbols b a ++ changes symbols before after
+
+-- why it stopped, what was changed, and where it is
+unfoldable pub stop_text : (limit : ℕ) → List Symbol → List ℕ → (changed : List ℕ) → Session → List ℕ
+stop_text limit symbols breaks changed s =
+    reason (why limit breaks s) ++ changed
+    ++ here symbols (pc_of s.machine.core) (memory_from s.machine.memory (pc_of s.machine.core) 64)
+
+-- with the watched bytes that were changed since they were seen
+abbrev pub stop_reply : (limit : ℕ) → List Symbol → Plan → List Seen → Session → List ℕ
+stop_reply limit symbols plan seen s =
+    stop_text limit symbols plan.breaks (changes symbols seen (seen_in plan.watches s.machine)) s
 
 -- steps that lead there
-abbrev pub stops : (limit : ℕ) → List Symbol → List ℕ → (most : ℕ) → Session → Act
-stops limit symbols breaks most t = act most t (stop_reply limit symbols breaks t)
+abbrev pub stops : (limit : ℕ) → List Symbol → Plan → List Seen → (most : ℕ) → Session → Act
+stops limit symbols plan seen most t = act most t (stop_reply limit symbols plan seen t)
 
-abbrev pub step_act : (limit : ℕ) → List Symbol → List ℕ → (count : ℕ) → Session → Act
-step_act limit symbols breaks count s =
-    stops limit symbols breaks (min count (left limit s)) (stepped_on limit count breaks s)
+-- Each of these stops where a watched byte isn't as it was before its first step.
 
-abbrev pub go_act : (limit : ℕ) → List Symbol → List ℕ → Session → Act
-go_act limit symbols breaks s = stops limit symbols breaks (left limit s) (gone_on limit breaks s)
+abbrev pub step_seen : (limit : ℕ) → List Symbol → Plan → (count : ℕ) → List Seen → Session → Act
+step_seen limit symbols plan count seen s =
+    stops limit symbols plan seen (min count (left limit s)) (stepped_on limit count plan.breaks seen s)
 
-abbrev pub over_act : (limit : ℕ) → List Symbol → List ℕ → Session → Act
-over_act limit symbols breaks s = stops limit symbols breaks (over_count limit s) (stepped_over limit breaks s)
+abbrev pub step_act : (limit : ℕ) → List Symbol → Plan → (count : ℕ) → Session → Act
+step_act limit symbols plan count s = step_seen limit symbols plan count (seen_in plan.watches s.machine) s
 
-abbrev pub to_goal : (limit : ℕ) → List Symbol → List ℕ → Goal → Session → Act
-to_goal limit symbols breaks goal s = stops limit symbols breaks (left limit s) (gone_to limit goal breaks s)
+abbrev pub go_seen : (limit : ℕ) → List Symbol → Plan → List Seen → Session → Act
+go_seen limit symbols plan seen s = stops limit symbols plan seen (left limit s) (gone_on limit plan.breaks seen s)
 
-abbrev pub until_act : (limit : ℕ) → List Symbol → List ℕ → Expression → Session → Act
-until_act limit symbols breaks e s =
-    by_value (evaluated symbols e s.machine) s (λ address. to_goal limit symbols breaks (goal_at address 0) s)
+abbrev pub go_act : (limit : ℕ) → List Symbol → Plan → Session → Act
+go_act limit symbols plan s = go_seen limit symbols plan (seen_in plan.watches s.machine) s
 
-abbrev pub out_to : (limit : ℕ) → List Symbol → List ℕ → Session → Option Goal → Act
-out_to limit symbols breaks s None = only_told s no_frame_line
-out_to limit symbols breaks s (Some goal) = to_goal limit symbols breaks goal s
+abbrev pub over_seen : (limit : ℕ) → List Symbol → Plan → List Seen → Session → Act
+over_seen limit symbols plan seen s =
+    stops limit symbols plan seen (over_count limit s) (stepped_over limit plan.breaks seen s)
+
+abbrev pub over_act : (limit : ℕ) → List Symbol → Plan → Session → Act
+over_act limit symbols plan s = over_seen limit symbols plan (seen_in plan.watches s.machine) s
+
+abbrev pub goal_seen : (limit : ℕ) → List Symbol → Plan → Goal → List Seen → Session → Act
+goal_seen limit symbols plan goal seen s =
+    stops limit symbols plan seen (left limit s) (gone_to limit goal plan.breaks seen s)
+
+abbrev pub to_goal : (limit : ℕ) → List Symbol → Plan → Goal → Session → Act
+to_goal limit symbols plan goal s = goal_seen limit symbols plan goal (seen_in plan.watches s.machine) s
+
+abbrev pub until_act : (limit : ℕ) → List Symbol → Plan → Expression → Session → Act
+until_act limit symbols plan e s =
+    by_value (evaluated symbols e s.machine) s (λ address. to_goal limit symbols plan (goal_at address 0) s)
+
+abbrev pub out_to : (limit : ℕ) → List Symbol → Plan → Session → Option Goal → Act
+out_to limit symbols plan s None = only_told s no_frame_line
+out_to limit symbols plan s (Some goal) = to_goal limit symbols plan goal s
 
 -- up to behind the return of the procedure
-abbrev pub out_act : (limit : ℕ) → List Symbol → List ℕ → Session → Act
-out_act limit symbols breaks s = out_to limit symbols breaks s (frame_goal s.machine)
+abbrev pub out_act : (limit : ℕ) → List Symbol → Plan → Session → Act
+out_act limit symbols plan s = out_to limit symbols plan s (frame_goal s.machine)
 
 -- changes
 
@@ -135,7 +177,7 @@ memory_act symbols to given s =
 abbrev pub evict_act : List Symbol → Expression → Session → Act
 evict_act symbols e s = by_value (evaluated symbols e s.machine) s (λ address. only_told s done_line)
 
--- addresses at which steps stop
+-- addresses at which steps stop, and what is watched
 
 -- one more, unless it is there or there are 16
 abbrev pub with_break : List ℕ → ℕ → List ℕ
@@ -148,19 +190,49 @@ added_line symbols breaks address =
     if list_any (λ a. a == address) breaks then break_line symbols address
     else if nat_le 16 (length breaks) then full_line else break_line symbols address
 
-abbrev pub break_act : List Symbol → List ℕ → Expression → Session → Act
-break_act symbols breaks e s =
-    by_value (evaluated symbols e s.machine) s (λ address. only_told s (added_line symbols breaks address))
+abbrev pub break_act : List Symbol → Plan → Expression → Session → Act
+break_act symbols plan e s =
+    by_value (evaluated symbols e s.machine) s (λ address. only_told s (added_line symbols plan.breaks address))
 
-abbrev pub by_address : Option ℕ → List ℕ → (ℕ → List ℕ) → List ℕ
-by_address None breaks change = breaks
-by_address (Some address) breaks change = change address
+abbrev pub by_address : Option ℕ → Plan → (ℕ → Plan) → Plan
+by_address None plan change = plan
+by_address (Some address) plan change = change address
 
-abbrev pub breaks_with : List Symbol → List ℕ → Expression → Session → List ℕ
-breaks_with symbols breaks e s = by_address (evaluated symbols e s.machine) breaks (with_break breaks)
+abbrev pub broken_at : Plan → ℕ → Plan
+broken_at plan address = record plan { breaks = with_break plan.breaks address }
+
+abbrev pub breaks_with : List Symbol → Plan → Expression → Session → Plan
+breaks_with symbols plan e s = by_address (evaluated symbols e s.machine) plan (broken_at plan)
+
+-- one more watch, in place of those that begin there, unless there are 16 others
+abbrev pub with_watch : List Watch → Watch → List Watch
+with_watch watches w =
+    if nat_le 16 (length (unwatched w.address watches)) then watches else unwatched w.address watches ++ w ∷ []
+
+abbrev pub watch : (count address : ℕ) → Watch
+watch count address = record { address = address; count = count }
+
+abbrev pub watch_reply : List Symbol → List Watch → Watch → List ℕ
+watch_reply symbols watches w =
+    if nat_le 16 (length (unwatched w.address watches)) then full_watches_line else watch_line symbols w.address w.count
+
+abbrev pub watch_act : List Symbol → Plan → Span → Session → Act
+watch_act symbols plan at s =
+    by_value (evaluated symbols at.from s.machine) s (λ address. only_told s (watch_reply symbols plan.watches (watch at.count address)))
+
+abbrev pub watched_at : Plan → (count address : ℕ) → Plan
+watched_at plan count address = record plan { watches = with_watch plan.watches (watch count address) }
+
+abbrev pub watches_with : List Symbol → Plan → Span → Session → Plan
+watches_with symbols plan at s = by_address (evaluated symbols at.from s.machine) plan (watched_at plan at.count)
 
 abbrev pub clear_act : List Symbol → Expression → Session → Act
 clear_act symbols e s = by_value (evaluated symbols e s.machine) s (λ address. only_told s done_line)
 
-abbrev pub breaks_without : List Symbol → List ℕ → Expression → Session → List ℕ
-breaks_without symbols breaks e s = by_address (evaluated symbols e s.machine) breaks (λ address. without address breaks)
+-- neither a stop nor a watch there
+abbrev pub cleared_at : Plan → ℕ → Plan
+cleared_at plan address =
+    record { breaks = without address plan.breaks; watches = unwatched address plan.watches }
+
+abbrev pub breaks_without : List Symbol → Plan → Expression → Session → Plan
+breaks_without symbols plan e s = by_address (evaluated symbols e s.machine) plan (cleared_at plan)

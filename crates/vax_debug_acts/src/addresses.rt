@@ -1,20 +1,21 @@
 //! The requests of where steps stop.
-ghost use Rattle.std.specs.Prelude.{◌≡◌, []};
+ghost use Rattle.std.specs.Prelude.{◌≡◌};
 ghost use Rattle.vax_machine.specs.Meaning.{engine};
 ghost use Rattle.vax_console.specs.Ends.{OnlyReplied, scene};
 ghost use Rattle.vax_debug.specs.Sessions.{Counts};
-ghost use Rattle.vax_debug.specs.Travel.{without};
+ghost use Rattle.vax_debug.specs.Plans.{no_plan};
 ghost use Rattle.vax_debug_words.specs.Expressions.{IsExpression};
-ghost use Rattle.vax_debug_replies.specs.Stops.{break_line};
+ghost use Rattle.vax_debug_words.specs.Requests.{IsSpan};
+ghost use Rattle.vax_debug_replies.specs.Stops.{break_line, watch_line};
 ghost use Rattle.vax_debug_acts.specs.Acting.{ActsFrom, BreaksFrom, Replies};
-ghost use Rattle.vax_debug_acts.specs.Acts.{added_line, break_act, breaks_with, breaks_without, clear_act, done_line, with_break};
+ghost use Rattle.vax_debug_acts.specs.Acts.{added_line, break_act, breaks_with, breaks_without, clear_act, cleared_at, done_line, watch_act, watch_reply, watches_with, with_break, with_watch};
 
-use crate::reply::{reply_with, tell_done, tell_full, tell_no_value};
+use crate::reply::{reply_with, tell_done, tell_full, tell_full_watches, tell_no_value};
 use crate::stops::Setting;
-use vax_debug::{Breaks, Failure, evaluate};
+use vax_debug::{Breaks, Failure, Plan, Watch, Watches, evaluate};
 use vax_debug_names::Symbol;
-use vax_debug_replies::push_break_line;
-use vax_debug_words::Expression;
+use vax_debug_replies::{push_break_line, push_watch_line};
+use vax_debug_words::{Expression, Span};
 use vax_machine::Machine;
 use vax_outside::{PageFile, Sink, Text};
 
@@ -49,21 +50,54 @@ fn add<K: Sink>(
     tell_break(symbols, address, sink)
 }
 
-/// An address less.
-fn remove<K: Sink>(address: u32, breaks: &mut Breaks, sink: &mut K) -> Result<(), Failure>
+/// Neither a stop nor a watch at an address.
+fn remove<K: Sink>(address: u32, plan: &mut Plan, sink: &mut K) -> Result<(), Failure>
     ensures replies { Replies result (K.faults sink.old) (K.faults sink.new)
         (K.contents sink.old) (K.contents sink.new) done_line }
-    ensures breaks { breaks.new ≡ without address breaks.old }
+    ensures plan { plan.new ≡ cleared_at plan.old address }
 {
-    breaks.remove(address);
+    plan.breaks.remove(address);
+    plan.watches = plan.watches.beside(address);
     tell_done(sink)
+}
+
+/// Replies with the line of a watch.
+fn tell_watch<K: Sink>(symbols: &[Symbol], watch: Watch, sink: &mut K) -> Result<(), Failure>
+    ensures { Replies result (K.faults sink.old) (K.faults sink.new)
+        (K.contents sink.old) (K.contents sink.new)
+        (watch_line symbols.now watch.address watch.count) }
+{
+    let mut text = Text::new();
+    push_watch_line(&mut text, symbols, watch.address, watch.count);
+    reply_with(text.as_slice(), sink)
+}
+
+/// One more watch, in place of those that begin there, unless there are 16 others.
+fn add_watch<K: Sink>(
+    symbols: &[Symbol],
+    watch: Watch,
+    watches: &mut Watches,
+    sink: &mut K,
+) -> Result<(), Failure>
+    ensures replies { Replies result (K.faults sink.old) (K.faults sink.new)
+        (K.contents sink.old) (K.contents sink.new)
+        (watch_reply symbols.now watches.old watch) }
+    ensures watches { watches.new ≡ with_watch watches.old watch }
+{
+    let mut left = watches.beside(watch.address);
+    if left.is_full() {
+        return tell_full_watches(sink);
+    }
+    left.add(watch);
+    *watches = left;
+    tell_watch(symbols, watch, sink)
 }
 
 /// Steps are to stop at an address, unless there are 16 others.
 pub fn stop_at<F: PageFile, K: Sink>(
     at: &Expression,
     setting: &Setting,
-    breaks: &mut Breaks,
+    plan: &mut Plan,
     machine: &mut Machine,
     file: &mut F,
     sink: &mut K,
@@ -73,26 +107,61 @@ pub fn stop_at<F: PageFile, K: Sink>(
         (scene (engine machine.old) (F.contents file.old) (K.contents sink.old))
         (scene (engine machine.new) (F.contents file.new) (K.contents sink.new)) result
         setting.now.limits.now
-        (break_act setting.now.symbols.now breaks.old at.now) }
+        (break_act setting.now.symbols.now plan.old at.now) }
     ensures breaks { BreaksFrom
-        (scene (engine machine.old) (F.contents file.old) (K.contents sink.old)) result breaks.new
-        (breaks_with setting.now.symbols.now breaks.old at.now) }
+        (scene (engine machine.old) (F.contents file.old) (K.contents sink.old)) result plan.new
+        (breaks_with setting.now.symbols.now plan.old at.now) }
     ensures counts { Counts result (F.faults file.old) (F.faults file.new) (K.faults sink.old)
         (K.faults sink.new) }
     ensures only { OnlyReplied (K.contents sink.old) (K.contents sink.new) }
 {
     match evaluate(setting.symbols, at, machine, file) {
-        Ok(Some(address)) => add(setting.symbols, address, breaks, sink),
+        Ok(Some(address)) => add(setting.symbols, address, &mut plan.breaks, sink),
         Ok(None) => tell_no_value(sink),
         Err(_) => Err(Failure::PageFault),
     }
 }
 
-/// Steps aren't to stop at an address any more.
+/// Bytes are to be watched, unless 16 others are.
+pub fn watch<F: PageFile, K: Sink>(
+    at: &Span,
+    setting: &Setting,
+    plan: &mut Plan,
+    machine: &mut Machine,
+    file: &mut F,
+    sink: &mut K,
+) -> Result<(), Failure>
+    requires { IsSpan at.now }
+    ensures acts { ActsFrom
+        (scene (engine machine.old) (F.contents file.old) (K.contents sink.old))
+        (scene (engine machine.new) (F.contents file.new) (K.contents sink.new)) result
+        setting.now.limits.now
+        (watch_act setting.now.symbols.now plan.old at.now) }
+    ensures breaks { BreaksFrom
+        (scene (engine machine.old) (F.contents file.old) (K.contents sink.old)) result plan.new
+        (watches_with setting.now.symbols.now plan.old at.now) }
+    ensures counts { Counts result (F.faults file.old) (F.faults file.new) (K.faults sink.old)
+        (K.faults sink.new) }
+    ensures only { OnlyReplied (K.contents sink.old) (K.contents sink.new) }
+{
+    match evaluate(setting.symbols, &at.from, machine, file) {
+        Ok(Some(address)) => {
+            let watch = Watch {
+                address,
+                count: at.count,
+            };
+            add_watch(setting.symbols, watch, &mut plan.watches, sink)
+        }
+        Ok(None) => tell_no_value(sink),
+        Err(_) => Err(Failure::PageFault),
+    }
+}
+
+/// Steps aren't to stop at an address any more, and what is watched from there on isn't any more.
 pub fn clear_at<F: PageFile, K: Sink>(
     at: &Expression,
     setting: &Setting,
-    breaks: &mut Breaks,
+    plan: &mut Plan,
     machine: &mut Machine,
     file: &mut F,
     sink: &mut K,
@@ -104,25 +173,25 @@ pub fn clear_at<F: PageFile, K: Sink>(
         setting.now.limits.now
         (clear_act setting.now.symbols.now at.now) }
     ensures breaks { BreaksFrom
-        (scene (engine machine.old) (F.contents file.old) (K.contents sink.old)) result breaks.new
-        (breaks_without setting.now.symbols.now breaks.old at.now) }
+        (scene (engine machine.old) (F.contents file.old) (K.contents sink.old)) result plan.new
+        (breaks_without setting.now.symbols.now plan.old at.now) }
     ensures counts { Counts result (F.faults file.old) (F.faults file.new) (K.faults sink.old)
         (K.faults sink.new) }
     ensures only { OnlyReplied (K.contents sink.old) (K.contents sink.new) }
 {
     match evaluate(setting.symbols, at, machine, file) {
-        Ok(Some(address)) => remove(address, breaks, sink),
+        Ok(Some(address)) => remove(address, plan, sink),
         Ok(None) => tell_no_value(sink),
         Err(_) => Err(Failure::PageFault),
     }
 }
 
-/// Steps aren't to stop at any address any more.
-pub fn clear_all<K: Sink>(breaks: &mut Breaks, sink: &mut K) -> Result<(), Failure>
+/// Steps aren't to stop at any address any more, and nothing is watched.
+pub fn clear_all<K: Sink>(plan: &mut Plan, sink: &mut K) -> Result<(), Failure>
     ensures replies { Replies result (K.faults sink.old) (K.faults sink.new)
         (K.contents sink.old) (K.contents sink.new) done_line }
-    ensures breaks { breaks.new ≡ [] }
+    ensures breaks { plan.new ≡ no_plan }
 {
-    *breaks = Breaks::new();
+    *plan = Plan::new();
     tell_done(sink)
 }

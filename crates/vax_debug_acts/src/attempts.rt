@@ -9,8 +9,8 @@ ghost use Rattle.vax_debug_acts.specs.Acting.{ActsFrom, Replies};
 ghost use Rattle.vax_debug_acts.specs.Attempts.{turn_act};
 
 use crate::reply::reply_with;
-use crate::stops::{Setting, tell_stop};
-use vax_debug::{Breaks, Failure, attempt};
+use crate::stops::{Setting, tell_plain_stop};
+use vax_debug::{Failure, Plan, attempt};
 use vax_debug_names::Symbol;
 use vax_debug_replies::push_missed_line;
 use vax_machine::{Limits, Machine};
@@ -41,7 +41,7 @@ fn is_at_limit(machine: &Machine, limits: &Limits) -> bool
 /// Makes one attempt at a step, and tells which page it missed, or where and why the machine stopped behind the step. At the limit of steps it makes none.
 pub fn turn<F: PageFile, K: Sink>(
     setting: &Setting,
-    breaks: &Breaks,
+    plan: &Plan,
     machine: &mut Machine,
     file: &mut F,
     sink: &mut K,
@@ -51,18 +51,18 @@ pub fn turn<F: PageFile, K: Sink>(
         (scene (engine machine.old) (F.contents file.old) (K.contents sink.old))
         (scene (engine machine.new) (F.contents file.new) (K.contents sink.new)) result
         setting.now.limits.now
-        (turn_act setting.now.limits.now.steps setting.now.symbols.now breaks.now
+        (turn_act setting.now.limits.now.steps setting.now.symbols.now plan.now
         (pages_at (engine machine.old))) }
     ensures counts { Counts result (F.faults file.old) (F.faults file.new) (K.faults sink.old)
         (K.faults sink.new) }
     ensures only { OnlyReplied (K.contents sink.old) (K.contents sink.new) }
 {
     if is_at_limit(machine, setting.limits) {
-        return tell_stop(setting, breaks, machine, file, sink);
+        return tell_plain_stop(setting, plan, machine, file, sink);
     }
     match attempt(machine, setting.limits, setting.schedule, file, sink) {
         Ok(Some(page)) => tell_missed(setting.symbols, page, sink),
-        Ok(None) => tell_stop(setting, breaks, machine, file, sink),
+        Ok(None) => tell_plain_stop(setting, plan, machine, file, sink),
         Err(failure) => Err(failure),
     }
 }

@@ -6,6 +6,7 @@
 
 mod addresses;
 mod attempts;
+mod changes;
 mod deposits;
 mod evictions;
 mod moves;
@@ -13,11 +14,11 @@ mod reply;
 mod status;
 mod stops;
 
-pub use crate::addresses::{clear_all, clear_at, stop_at};
+pub use crate::addresses::{clear_all, clear_at, stop_at, watch};
 pub use crate::attempts::turn;
 pub use crate::deposits::{deposit_into_memory, deposit_into_register};
 pub use crate::evictions::{evict_all, evict_at};
 pub use crate::moves::{go, leave, over, step, until};
-pub use crate::status::deposit_into_status;
+pub use crate::status::{deposit_into_field, deposit_into_status};
 pub use crate::stops::Setting;
-pub use vax_debug::{Breaks, Failure};
+pub use vax_debug::{Failure, Plan};

@@ -5,20 +5,21 @@ ghost use Rattle.vax_console.specs.Ends.{OnlyReplied, scene};
 ghost use Rattle.vax_debug.specs.Sessions.{Counts};
 ghost use Rattle.vax_debug_words.specs.Expressions.{IsExpression};
 ghost use Rattle.vax_debug_acts.specs.Acting.{ActsFrom};
-ghost use Rattle.vax_debug_acts.specs.Acts.{go_act, out_act, over_act, step_act, to_goal, until_act};
+ghost use Rattle.vax_debug_acts.specs.Acts.{go_act, go_seen, goal_seen, out_act, over_act, over_seen, step_act, step_seen, to_goal, until_act};
 
 use crate::reply::{tell_no_frame, tell_no_value};
 use crate::stops::{Setting, tell_stop};
-use vax_debug::{Breaks, Failure, Goal, evaluate, frame_goal};
+use vax_debug::{Failure, Goal, Marks, Plan, Snapshot, evaluate, frame_goal, look};
 use vax_debug_words::Expression;
 use vax_machine::Machine;
 use vax_outside::{PageFile, Sink};
 
-/// Makes at most so many steps, up to a stop, and tells where and why it stopped.
-pub fn step<F: PageFile, K: Sink>(
+/// The same, with the watched bytes as they were seen before.
+fn step_seen<F: PageFile, K: Sink>(
     count: u64,
     setting: &Setting,
-    breaks: &Breaks,
+    plan: &Plan,
+    seen: &Snapshot,
     machine: &mut Machine,
     file: &mut F,
     sink: &mut K,
@@ -28,21 +29,86 @@ pub fn step<F: PageFile, K: Sink>(
         (scene (engine machine.old) (F.contents file.old) (K.contents sink.old))
         (scene (engine machine.new) (F.contents file.new) (K.contents sink.new)) result
         setting.now.limits.now
-        (step_act setting.now.limits.now.steps setting.now.symbols.now breaks.now count) }
+        (step_seen setting.now.limits.now.steps setting.now.symbols.now plan.now count seen.now) }
     ensures counts { Counts result (F.faults file.old) (F.faults file.new) (K.faults sink.old)
         (K.faults sink.new) }
     ensures only { OnlyReplied (K.contents sink.old) (K.contents sink.new) }
 {
+    let marks = Marks {
+        breaks: &plan.breaks,
+        seen,
+    };
     match vax_debug::step(
         count,
-        breaks,
+        &marks,
         machine,
         setting.limits,
         setting.schedule,
         file,
         sink,
     ) {
-        Ok(()) => tell_stop(setting, breaks, machine, file, sink),
+        Ok(()) => tell_stop(setting, plan, seen, machine, file, sink),
+        Err(failure) => Err(failure),
+    }
+}
+
+/// Makes at most so many steps, up to a stop, and tells where and why it stopped.
+pub fn step<F: PageFile, K: Sink>(
+    count: u64,
+    setting: &Setting,
+    plan: &Plan,
+    machine: &mut Machine,
+    file: &mut F,
+    sink: &mut K,
+) -> Result<(), Failure>
+    requires few_turns { setting.now.limits.now.turns < 2 ^ 64 - 2 }
+    ensures acts { ActsFrom
+        (scene (engine machine.old) (F.contents file.old) (K.contents sink.old))
+        (scene (engine machine.new) (F.contents file.new) (K.contents sink.new)) result
+        setting.now.limits.now
+        (step_act setting.now.limits.now.steps setting.now.symbols.now plan.now count) }
+    ensures counts { Counts result (F.faults file.old) (F.faults file.new) (K.faults sink.old)
+        (K.faults sink.new) }
+    ensures only { OnlyReplied (K.contents sink.old) (K.contents sink.new) }
+{
+    match look(&plan.watches, machine, file) {
+        Ok(seen) => step_seen(count, setting, plan, &seen, machine, file, sink),
+        Err(_) => Err(Failure::PageFault),
+    }
+}
+
+/// The same, with the watched bytes as they were seen before.
+fn go_seen<F: PageFile, K: Sink>(
+    setting: &Setting,
+    plan: &Plan,
+    seen: &Snapshot,
+    machine: &mut Machine,
+    file: &mut F,
+    sink: &mut K,
+) -> Result<(), Failure>
+    requires few_turns { setting.now.limits.now.turns < 2 ^ 64 - 2 }
+    ensures acts { ActsFrom
+        (scene (engine machine.old) (F.contents file.old) (K.contents sink.old))
+        (scene (engine machine.new) (F.contents file.new) (K.contents sink.new)) result
+        setting.now.limits.now
+        (go_seen setting.now.limits.now.steps setting.now.symbols.now plan.now seen.now) }
+    ensures counts { Counts result (F.faults file.old) (F.faults file.new) (K.faults sink.old)
+        (K.faults sink.new) }
+    ensures only { OnlyReplied (K.contents sink.old) (K.contents sink.new) }
+{
+    let marks = Marks {
+        breaks: &plan.breaks,
+        seen,
+    };
+    match vax_debug::go(
+        &marks,
+        machine,
+        setting.limits,
+        setting.schedule,
+        file,
+        sink,
+    ) {
+        Ok(()) => tell_stop(setting, plan, seen, machine, file, sink),
         Err(failure) => Err(failure),
     }
 }
@@ -50,7 +116,7 @@ pub fn step<F: PageFile, K: Sink>(
 /// Makes steps up to a stop or the limit, and tells where and why it stopped.
 pub fn go<F: PageFile, K: Sink>(
     setting: &Setting,
-    breaks: &Breaks,
+    plan: &Plan,
     machine: &mut Machine,
     file: &mut F,
     sink: &mut K,
@@ -60,20 +126,49 @@ pub fn go<F: PageFile, K: Sink>(
         (scene (engine machine.old) (F.contents file.old) (K.contents sink.old))
         (scene (engine machine.new) (F.contents file.new) (K.contents sink.new)) result
         setting.now.limits.now
-        (go_act setting.now.limits.now.steps setting.now.symbols.now breaks.now) }
+        (go_act setting.now.limits.now.steps setting.now.symbols.now plan.now) }
     ensures counts { Counts result (F.faults file.old) (F.faults file.new) (K.faults sink.old)
         (K.faults sink.new) }
     ensures only { OnlyReplied (K.contents sink.old) (K.contents sink.new) }
 {
-    match vax_debug::go(
-        breaks,
+    match look(&plan.watches, machine, file) {
+        Ok(seen) => go_seen(setting, plan, &seen, machine, file, sink),
+        Err(_) => Err(Failure::PageFault),
+    }
+}
+
+/// The same, with the watched bytes as they were seen before.
+fn over_seen<F: PageFile, K: Sink>(
+    setting: &Setting,
+    plan: &Plan,
+    seen: &Snapshot,
+    machine: &mut Machine,
+    file: &mut F,
+    sink: &mut K,
+) -> Result<(), Failure>
+    requires few_turns { setting.now.limits.now.turns < 2 ^ 64 - 2 }
+    ensures acts { ActsFrom
+        (scene (engine machine.old) (F.contents file.old) (K.contents sink.old))
+        (scene (engine machine.new) (F.contents file.new) (K.contents sink.new)) result
+        setting.now.limits.now
+        (over_seen setting.now.limits.now.steps setting.now.symbols.now plan.now seen.now) }
+    ensures counts { Counts result (F.faults file.old) (F.faults file.new) (K.faults sink.old)
+        (K.faults sink.new) }
+    ensures only { OnlyReplied (K.contents sink.old) (K.contents sink.new) }
+{
+    let marks = Marks {
+        breaks: &plan.breaks,
+        seen,
+    };
+    match vax_debug::over(
+        &marks,
         machine,
         setting.limits,
         setting.schedule,
         file,
         sink,
     ) {
-        Ok(()) => tell_stop(setting, breaks, machine, file, sink),
+        Ok(()) => tell_stop(setting, plan, seen, machine, file, sink),
         Err(failure) => Err(failure),
     }
 }
@@ -81,7 +176,7 @@ pub fn go<F: PageFile, K: Sink>(
 /// Makes a step, or all of those of a call, and tells where and why it stopped.
 pub fn over<F: PageFile, K: Sink>(
     setting: &Setting,
-    breaks: &Breaks,
+    plan: &Plan,
     machine: &mut Machine,
     file: &mut F,
     sink: &mut K,
@@ -91,20 +186,51 @@ pub fn over<F: PageFile, K: Sink>(
         (scene (engine machine.old) (F.contents file.old) (K.contents sink.old))
         (scene (engine machine.new) (F.contents file.new) (K.contents sink.new)) result
         setting.now.limits.now
-        (over_act setting.now.limits.now.steps setting.now.symbols.now breaks.now) }
+        (over_act setting.now.limits.now.steps setting.now.symbols.now plan.now) }
     ensures counts { Counts result (F.faults file.old) (F.faults file.new) (K.faults sink.old)
         (K.faults sink.new) }
     ensures only { OnlyReplied (K.contents sink.old) (K.contents sink.new) }
 {
-    match vax_debug::over(
-        breaks,
+    match look(&plan.watches, machine, file) {
+        Ok(seen) => over_seen(setting, plan, &seen, machine, file, sink),
+        Err(_) => Err(Failure::PageFault),
+    }
+}
+
+/// The same, with the watched bytes as they were seen before.
+fn go_to_seen<F: PageFile, K: Sink>(
+    goal: Goal,
+    setting: &Setting,
+    plan: &Plan,
+    seen: &Snapshot,
+    machine: &mut Machine,
+    file: &mut F,
+    sink: &mut K,
+) -> Result<(), Failure>
+    requires few_turns { setting.now.limits.now.turns < 2 ^ 64 - 2 }
+    ensures acts { ActsFrom
+        (scene (engine machine.old) (F.contents file.old) (K.contents sink.old))
+        (scene (engine machine.new) (F.contents file.new) (K.contents sink.new)) result
+        setting.now.limits.now
+        (goal_seen setting.now.limits.now.steps setting.now.symbols.now plan.now goal seen.now) }
+    ensures counts { Counts result (F.faults file.old) (F.faults file.new) (K.faults sink.old)
+        (K.faults sink.new) }
+    ensures only { OnlyReplied (K.contents sink.old) (K.contents sink.new) }
+{
+    let marks = Marks {
+        breaks: &plan.breaks,
+        seen,
+    };
+    match vax_debug::go_to(
+        goal,
+        &marks,
         machine,
         setting.limits,
         setting.schedule,
         file,
         sink,
     ) {
-        Ok(()) => tell_stop(setting, breaks, machine, file, sink),
+        Ok(()) => tell_stop(setting, plan, seen, machine, file, sink),
         Err(failure) => Err(failure),
     }
 }
@@ -113,7 +239,7 @@ pub fn over<F: PageFile, K: Sink>(
 fn go_to<F: PageFile, K: Sink>(
     goal: Goal,
     setting: &Setting,
-    breaks: &Breaks,
+    plan: &Plan,
     machine: &mut Machine,
     file: &mut F,
     sink: &mut K,
@@ -123,22 +249,14 @@ fn go_to<F: PageFile, K: Sink>(
         (scene (engine machine.old) (F.contents file.old) (K.contents sink.old))
         (scene (engine machine.new) (F.contents file.new) (K.contents sink.new)) result
         setting.now.limits.now
-        (to_goal setting.now.limits.now.steps setting.now.symbols.now breaks.now goal) }
+        (to_goal setting.now.limits.now.steps setting.now.symbols.now plan.now goal) }
     ensures counts { Counts result (F.faults file.old) (F.faults file.new) (K.faults sink.old)
         (K.faults sink.new) }
     ensures only { OnlyReplied (K.contents sink.old) (K.contents sink.new) }
 {
-    match vax_debug::go_to(
-        goal,
-        breaks,
-        machine,
-        setting.limits,
-        setting.schedule,
-        file,
-        sink,
-    ) {
-        Ok(()) => tell_stop(setting, breaks, machine, file, sink),
-        Err(failure) => Err(failure),
+    match look(&plan.watches, machine, file) {
+        Ok(seen) => go_to_seen(goal, setting, plan, &seen, machine, file, sink),
+        Err(_) => Err(Failure::PageFault),
     }
 }
 
@@ -146,7 +264,7 @@ fn go_to<F: PageFile, K: Sink>(
 pub fn until<F: PageFile, K: Sink>(
     to: &Expression,
     setting: &Setting,
-    breaks: &Breaks,
+    plan: &Plan,
     machine: &mut Machine,
     file: &mut F,
     sink: &mut K,
@@ -157,7 +275,7 @@ pub fn until<F: PageFile, K: Sink>(
         (scene (engine machine.old) (F.contents file.old) (K.contents sink.old))
         (scene (engine machine.new) (F.contents file.new) (K.contents sink.new)) result
         setting.now.limits.now
-        (until_act setting.now.limits.now.steps setting.now.symbols.now breaks.now to.now) }
+        (until_act setting.now.limits.now.steps setting.now.symbols.now plan.now to.now) }
     ensures counts { Counts result (F.faults file.old) (F.faults file.new) (K.faults sink.old)
         (K.faults sink.new) }
     ensures only { OnlyReplied (K.contents sink.old) (K.contents sink.new) }
@@ -165,7 +283,7 @@ pub fn until<F: PageFile, K: Sink>(
     match evaluate(setting.symbols, to, machine, file) {
         Ok(Some(address)) => {
             let goal = Goal { address, least: 0 };
-            go_to(goal, setting, breaks, machine, file, sink)
+            go_to(goal, setting, plan, machine, file, sink)
         }
         Ok(None) => tell_no_value(sink),
         Err(_) => Err(Failure::PageFault),
@@ -175,7 +293,7 @@ pub fn until<F: PageFile, K: Sink>(
 /// Makes the rest of the steps of a procedure, up to a stop or the limit, and tells where and why it stopped.
 pub fn leave<F: PageFile, K: Sink>(
     setting: &Setting,
-    breaks: &Breaks,
+    plan: &Plan,
     machine: &mut Machine,
     file: &mut F,
     sink: &mut K,
@@ -185,13 +303,13 @@ pub fn leave<F: PageFile, K: Sink>(
         (scene (engine machine.old) (F.contents file.old) (K.contents sink.old))
         (scene (engine machine.new) (F.contents file.new) (K.contents sink.new)) result
         setting.now.limits.now
-        (out_act setting.now.limits.now.steps setting.now.symbols.now breaks.now) }
+        (out_act setting.now.limits.now.steps setting.now.symbols.now plan.now) }
     ensures counts { Counts result (F.faults file.old) (F.faults file.new) (K.faults sink.old)
         (K.faults sink.new) }
     ensures only { OnlyReplied (K.contents sink.old) (K.contents sink.new) }
 {
     match frame_goal(machine, file) {
-        Ok(Some(goal)) => go_to(goal, setting, breaks, machine, file, sink),
+        Ok(Some(goal)) => go_to(goal, setting, plan, machine, file, sink),
         Ok(None) => tell_no_frame(sink),
         Err(_) => Err(Failure::PageFault),
     }

@@ -1,6 +1,6 @@
 //! Replies of one line.
 ghost use Rattle.vax_debug_acts.specs.Acting.{Replies};
-ghost use Rattle.vax_debug_acts.specs.Acts.{done_line, full_line, no_frame_line, no_value_line};
+ghost use Rattle.vax_debug_acts.specs.Acts.{done_line, full_line, full_watches_line, no_frame_line, no_value_line};
 
 use vax_debug::Failure;
 use vax_outside::{Chan, Failed, Sink, put_all};
@@ -38,6 +38,14 @@ pub(crate) fn tell_full<K: Sink>(sink: &mut K) -> Result<(), Failure>
         (K.contents sink.old) (K.contents sink.new) full_line }
 {
     reply_with(b"?NO MORE THAN 16 BREAKS\n", sink)
+}
+
+/// Replies that there are as many watches as there may be.
+pub(crate) fn tell_full_watches<K: Sink>(sink: &mut K) -> Result<(), Failure>
+    ensures { Replies result (K.faults sink.old) (K.faults sink.new)
+        (K.contents sink.old) (K.contents sink.new) full_watches_line }
+{
+    reply_with(b"?NO MORE THAN 16 WATCHES\n", sink)
 }
 
 /// Replies that memory has no saved PC of a frame.

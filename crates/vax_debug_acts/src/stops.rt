@@ -1,18 +1,19 @@
 //! Where and why steps stopped.
-ghost use Rattle.std.specs.Prelude.{◌≡◌, ◌==◌, ◌≤◌, length, nat_le};
+ghost use Rattle.std.specs.Prelude.{◌≡◌, ◌==◌, ◌≤◌, ◌++◌, [], length, nat_le};
 ghost use Rattle.std.specs.List.{list_any};
 ghost use Rattle.vax_machine.specs.Meaning.{engine};
 ghost use Rattle.vax_console.specs.Ends.{OnlyReplied, scene};
 ghost use Rattle.vax_debug.specs.Sessions.{Counts};
 ghost use Rattle.vax_debug.specs.Travel.{pc_of};
-ghost use Rattle.vax_debug_replies.specs.Stops.{stop};
+ghost use Rattle.vax_debug_replies.specs.Stops.{here, reason};
 ghost use Rattle.vax_debug_acts.specs.Acting.{Replies, RepliesFrom};
-ghost use Rattle.vax_debug_acts.specs.Acts.{stop_reply, why_stopped};
+ghost use Rattle.vax_debug_acts.specs.Acts.{changes, stop_reply, stop_text, why_stopped};
 
+use crate::changes::{Sights, tell_all_changes};
 use crate::reply::reply_with;
-use vax_debug::{Breaks, Failure, examine};
+use vax_debug::{Breaks, Failure, Plan, Snapshot, examine, look};
 use vax_debug_names::Symbol;
-use vax_debug_replies::push_stop;
+use vax_debug_replies::{push_here, push_reason};
 use vax_flat::Ending;
 use vax_machine::{Limits, Machine};
 use vax_outside::{PageFile, Sink, Text};
@@ -63,9 +64,18 @@ fn why(breaks: &Breaks, limits: &Limits, machine: &Machine) -> Option<Last>
     why_stopped(machine.ended(), at_break, at_limit)
 }
 
-/// Replies where and why steps stopped.
-fn reply_stop<K: Sink>(
-    last: Option<Last>,
+/// Replies why steps stopped, if there is a reason but that they were made.
+fn tell_reason<K: Sink>(last: Option<Last>, sink: &mut K) -> Result<(), Failure>
+    ensures { Replies result (K.faults sink.old) (K.faults sink.new)
+        (K.contents sink.old) (K.contents sink.new) (reason last) }
+{
+    let mut text = Text::new();
+    push_reason(&mut text, last);
+    reply_with(text.as_slice(), sink)
+}
+
+/// Replies where steps stopped.
+fn tell_here<K: Sink>(
     symbols: &[Symbol],
     address: u32,
     cells: &[Option<u8>],
@@ -73,17 +83,65 @@ fn reply_stop<K: Sink>(
 ) -> Result<(), Failure>
     requires { length cells.now ≤ 64 }
     ensures { Replies result (K.faults sink.old) (K.faults sink.new)
-        (K.contents sink.old) (K.contents sink.new) (stop last symbols.now address cells.now) }
+        (K.contents sink.old) (K.contents sink.new) (here symbols.now address cells.now) }
 {
     let mut text = Text::new();
-    push_stop(&mut text, last, symbols, address, cells);
+    push_here(&mut text, symbols, address, cells);
     reply_with(text.as_slice(), sink)
 }
 
-/// Replies where and why a machine stopped.
-pub(crate) fn tell_stop<F: PageFile, K: Sink>(
+/// Replies which watched bytes were changed, and where steps stopped.
+fn tell_changes_here<K: Sink>(
+    symbols: &[Symbol],
+    seen: &Sights,
+    address: u32,
+    cells: &[Option<u8>],
+    sink: &mut K,
+) -> Result<(), Failure>
+    requires { length cells.now ≤ 64 }
+    ensures { Replies result (K.faults sink.old) (K.faults sink.new)
+        (K.contents sink.old) (K.contents sink.new)
+        (changes symbols.now seen.now.before.now seen.now.after.now
+        ++ here symbols.now address cells.now) }
+{
+    match tell_all_changes(symbols, seen, sink) {
+        Ok(()) => tell_here(symbols, address, cells, sink),
+        Err(failure) => Err(failure),
+    }
+}
+
+/// Where steps stopped: the address, and the bytes from there on.
+#[derive(Clone, Copy)]
+struct Here<'a> {
+    address: u32,
+    cells: &'a [Option<u8>],
+}
+
+/// Replies why steps stopped, which watched bytes were changed, and where it is.
+fn reply_stop<K: Sink>(
+    last: Option<Last>,
+    symbols: &[Symbol],
+    seen: &Sights,
+    place: &Here,
+    sink: &mut K,
+) -> Result<(), Failure>
+    requires { length place.now.cells.now ≤ 64 }
+    ensures { Replies result (K.faults sink.old) (K.faults sink.new)
+        (K.contents sink.old) (K.contents sink.new)
+        (reason last ++ changes symbols.now seen.now.before.now seen.now.after.now
+        ++ here symbols.now place.now.address place.now.cells.now) }
+{
+    match tell_reason(last, sink) {
+        Ok(()) => tell_changes_here(symbols, seen, place.address, place.cells, sink),
+        Err(failure) => Err(failure),
+    }
+}
+
+/// Replies where and why a machine stopped whose watched bytes were seen before and are these now.
+fn tell_stop_here<F: PageFile, K: Sink>(
     setting: &Setting,
-    breaks: &Breaks,
+    plan: &Plan,
+    seen: &Sights,
     machine: &mut Machine,
     file: &mut F,
     sink: &mut K,
@@ -91,16 +149,71 @@ pub(crate) fn tell_stop<F: PageFile, K: Sink>(
     ensures replies { RepliesFrom
         (scene (engine machine.old) (F.contents file.old) (K.contents sink.old))
         (scene (engine machine.new) (F.contents file.new) (K.contents sink.new)) result
-        (stop_reply setting.now.limits.now.steps setting.now.symbols.now breaks.now) }
+        (stop_text setting.now.limits.now.steps setting.now.symbols.now plan.now.breaks
+        (changes setting.now.symbols.now seen.now.before.now seen.now.after.now)) }
     ensures counts { Counts result (F.faults file.old) (F.faults file.new) (K.faults sink.old)
         (K.faults sink.new) }
     ensures only { OnlyReplied (K.contents sink.old) (K.contents sink.new) }
 {
-    let last = why(breaks, setting.limits, machine);
+    let last = why(&plan.breaks, setting.limits, machine);
     let address = pc_of(machine);
     let mut cells = [None; MOST];
     match examine(address, &mut cells, machine, file) {
-        Ok(()) => reply_stop(last, setting.symbols, address, &cells, sink),
+        Ok(()) => {
+            let place = Here {
+                address,
+                cells: &cells,
+            };
+            reply_stop(last, setting.symbols, seen, &place, sink)
+        }
         Err(_) => Err(Failure::PageFault),
     }
+}
+
+/// Replies where and why a machine stopped, and which watched bytes were changed since they were seen.
+pub(crate) fn tell_stop<F: PageFile, K: Sink>(
+    setting: &Setting,
+    plan: &Plan,
+    seen: &Snapshot,
+    machine: &mut Machine,
+    file: &mut F,
+    sink: &mut K,
+) -> Result<(), Failure>
+    ensures replies { RepliesFrom
+        (scene (engine machine.old) (F.contents file.old) (K.contents sink.old))
+        (scene (engine machine.new) (F.contents file.new) (K.contents sink.new)) result
+        (stop_reply setting.now.limits.now.steps setting.now.symbols.now plan.now seen.now) }
+    ensures counts { Counts result (F.faults file.old) (F.faults file.new) (K.faults sink.old)
+        (K.faults sink.new) }
+    ensures only { OnlyReplied (K.contents sink.old) (K.contents sink.new) }
+{
+    match look(&plan.watches, machine, file) {
+        Ok(after) => {
+            let seen = Sights {
+                before: seen,
+                after: &after,
+            };
+            tell_stop_here(setting, plan, &seen, machine, file, sink)
+        }
+        Err(_) => Err(Failure::PageFault),
+    }
+}
+
+/// Replies where and why a machine stopped, and nothing of watched bytes.
+pub(crate) fn tell_plain_stop<F: PageFile, K: Sink>(
+    setting: &Setting,
+    plan: &Plan,
+    machine: &mut Machine,
+    file: &mut F,
+    sink: &mut K,
+) -> Result<(), Failure>
+    ensures replies { RepliesFrom
+        (scene (engine machine.old) (F.contents file.old) (K.contents sink.old))
+        (scene (engine machine.new) (F.contents file.new) (K.contents sink.new)) result
+        (stop_reply setting.now.limits.now.steps setting.now.symbols.now plan.now []) }
+    ensures counts { Counts result (F.faults file.old) (F.faults file.new) (K.faults sink.old)
+        (K.faults sink.new) }
+    ensures only { OnlyReplied (K.contents sink.old) (K.contents sink.new) }
+{
+    tell_stop(setting, plan, &Snapshot::new(), machine, file, sink)
 }

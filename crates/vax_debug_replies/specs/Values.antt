@@ -14,9 +14,13 @@ abbrev pub digits_of : Option ℕ → List ℕ
 digits_of None = codes "--"
 digits_of (Some byte) = hex 2 byte
 
--- a value of these bytes, the lowest first, at an address: its digits, the highest byte first
+-- a value of these bytes, the lowest first: its digits, the highest byte first
+abbrev pub value : List (Option ℕ) → List ℕ
+value cells = flat_map digits_of (reverse cells)
+
+-- at an address
 unfoldable pub value_line : List Symbol → ℕ → List (Option ℕ) → List ℕ
-value_line symbols address cells = head symbols address ++ flat_map digits_of (reverse cells) ++ 10 ∷ []
+value_line symbols address cells = head symbols address ++ value cells ++ 10 ∷ []
 
 -- a character as it is, where it can be shown; a point where it can't, and a dash where there is none
 abbrev pub character : Option ℕ → ℕ

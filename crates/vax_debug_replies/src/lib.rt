@@ -12,6 +12,7 @@ mod places;
 mod status;
 mod stops;
 mod values;
+mod watches;
 
 pub use crate::frames::{Frame, push_frame};
 pub use crate::help::{write_breaks, write_help, write_refusal};
@@ -19,5 +20,6 @@ pub use crate::instructions::{push_instruction_line, span_of};
 pub use crate::pages::{PageState, push_frames_line, push_missed_line, push_page_line};
 pub use crate::places::push_place;
 pub use crate::status::push_status_line;
-pub use crate::stops::{push_break_line, push_stop};
+pub use crate::stops::{push_break_line, push_here, push_reason};
 pub use crate::values::{push_ascii_line, push_value_line};
+pub use crate::watches::{push_watch_line, write_change};

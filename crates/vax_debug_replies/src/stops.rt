@@ -1,6 +1,6 @@
 //! The lines that tell where steps stopped, and where they are to stop.
 ghost use Rattle.std.specs.Prelude.{◌≡◌, ◌+◌, ◌≤◌, ◌++◌, length};
-ghost use Rattle.vax_debug_replies.specs.Stops.{break_line, reason, stop};
+ghost use Rattle.vax_debug_replies.specs.Stops.{break_line, here, reason};
 
 use crate::instructions::push_instruction_line;
 use crate::places::push_place;
@@ -8,8 +8,8 @@ use vax_debug_names::Symbol;
 use vax_outside::Text;
 use vax_report::{Last, push_ending};
 
-/// Appends the line of why the machine stands still, if there is a reason.
-fn push_reason(text: &mut Text, last: Option<Last>)
+/// Appends the line of why the machine stands still, if there is a reason but that the steps were made.
+pub fn push_reason(text: &mut Text, last: Option<Last>)
     requires { length text.old + 18 ≤ 512 }
     ensures exact { text.new ≡ text.old ++ reason last }
     ensures short { length text.new ≤ length text.old + 18 }
@@ -19,21 +19,14 @@ fn push_reason(text: &mut Text, last: Option<Last>)
     }
 }
 
-/// Appends the lines of a stop: why, if there is a reason but that the steps were made, and the instruction at PC, with which cells begin.
-#[tactic(auto, unfolding(crate::specs::Stops::stop))]
-pub fn push_stop(
-    text: &mut Text,
-    last: Option<Last>,
-    symbols: &[Symbol],
-    address: u32,
-    cells: &[Option<u8>],
-)
+/// Appends the line of the instruction at PC, with which cells begin.
+#[tactic(auto, unfolding(crate::specs::Stops::here))]
+pub fn push_here(text: &mut Text, symbols: &[Symbol], address: u32, cells: &[Option<u8>])
     requires few { length cells.now ≤ 64 }
-    requires room { length text.old + 233 ≤ 512 }
-    ensures exact { text.new ≡ text.old ++ stop last symbols.now address cells.now }
-    ensures short { length text.new ≤ length text.old + 233 }
+    requires room { length text.old + 215 ≤ 512 }
+    ensures exact { text.new ≡ text.old ++ here symbols.now address cells.now }
+    ensures short { length text.new ≤ length text.old + 215 }
 {
-    push_reason(text, last);
     text.push(b"AT ");
     push_instruction_line(text, symbols, address, cells);
 }

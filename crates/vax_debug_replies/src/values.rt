@@ -1,7 +1,7 @@
 //! The lines of values in memory.
-ghost use Rattle.std.specs.Prelude.{◌≡◌, ◌+◌, ◌*◌, ◌≤◌, ◌++◌, length, reverse};
+ghost use Rattle.std.specs.Prelude.{◌≡◌, ◌+◌, ◌*◌, ◌≤◌, ◌++◌, length};
 ghost use Rattle.std.specs.List.{flat_map};
-ghost use Rattle.vax_debug_replies.specs.Values.{ascii_line, character, character_text, digits_of, head, value_line};
+ghost use Rattle.vax_debug_replies.specs.Values.{ascii_line, character, character_text, digits_of, head, value, value_line};
 
 use crate::places::push_place;
 use vax_debug_names::Symbol;
@@ -40,6 +40,16 @@ fn push_bytes(text: &mut Text, cells: &[Option<u8>])
     }
 }
 
+/// Appends the digits of a value, the highest byte first. The cells are turned around.
+pub(crate) fn push_value(text: &mut Text, cells: &mut [Option<u8>])
+    requires { length text.old + 2 * length cells.old ≤ 512 }
+    ensures exact { text.new ≡ text.old ++ value cells.old }
+    ensures len { length text.new ≡ length text.old + 2 * length cells.old }
+{
+    cells.reverse();
+    push_bytes(text, cells);
+}
+
 /// Appends the line of a value of at most eight bytes, which lies at an address: its digits, the highest byte first. The cells are turned around.
 #[tactic(auto, unfolding(crate::specs::Values::value_line))]
 pub fn push_value_line(text: &mut Text, symbols: &[Symbol], address: u32, cells: &mut [Option<u8>])
@@ -49,8 +59,7 @@ pub fn push_value_line(text: &mut Text, symbols: &[Symbol], address: u32, cells:
     ensures short { length text.new ≤ length text.old + 68 }
 {
     push_head(text, symbols, address);
-    cells.reverse();
-    push_bytes(text, cells);
+    push_value(text, cells);
     text.push(b"\n");
 }
 

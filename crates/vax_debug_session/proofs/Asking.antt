@@ -1,5 +1,5 @@
 -- What requests come to, request by request.
-use Rattle.std.proofs.Common.{◌≡◌, ℕ, false, List, [], append-nil, Option, Result, Ok, refl, sym, subst}
+use Rattle.std.proofs.Common.{◌≡◌, ℕ, List, [], append-nil, Option, None, Result, Ok, refl, sym, subst}
 use Rattle.vax_outside.proofs.Growth.{grew_nothing}
 use Rattle.vax_outside.specs.Channels.{Channels}
 use Rattle.vax_flat.specs.Step.{Flat}
@@ -9,10 +9,12 @@ use Rattle.vax_console.specs.Ends.{Scene}
 use Rattle.vax_debug_acts.specs.Pages.{Pages}
 use Rattle.vax_debug_acts.specs.Sessions.{IsHere}
 use Rattle.vax_debug_acts.specs.Failure.{Failure}
+use Rattle.vax_debug_acts.specs.Plan.{Plan}
 use Rattle.vax_debug_names.specs.declared.Symbol.{Symbol}
 use Rattle.vax_debug_words.specs.declared.command.Command.{Command}
 use Rattle.vax_debug_words.specs.declared.command.Form.{Form}
 use Rattle.vax_debug_words.specs.declared.request.Expression.{Expression}
+use Rattle.vax_debug_words.specs.declared.request.Field.{Field}
 use Rattle.vax_debug_words.specs.declared.request.Span.{Span}
 use Rattle.vax_debug_words.specs.declared.request.Value.{Value}
 use Rattle.vax_debug_words.specs.declared.request.Line.{Line}
@@ -28,10 +30,10 @@ use Rattle.vax_debug_acts.specs.Acts.{only_told}
 use Rattle.vax_debug_acts.proofs.Telling.{ok_if}
 use Rattle.vax_debug_session.specs.Exchanges.{Exchange}
 use Rattle.vax_debug_session.specs.Requests.{answered, breaks_after, cleared, cleared_act, disassembled_at, shown}
-use Rattle.vax_debug_session.specs.Holding.{breaks_behind, carried_out, quits}
+use Rattle.vax_debug_session.specs.Holding.{breaks_behind, carried_out, end_asked}
 use Rattle.vax_debug_session.proofs.Telling.{shows_acts}
 
-pub shown_as : (v w : Scene) (r : Result (Unit {0}) Failure) (symbols : List Symbol) (breaks : List ℕ) (pages : Pages) (q p : Request) → q ≡ p → Shows v w r (shown symbols breaks pages p) → Shows v w r (shown symbols breaks pages q)
+pub shown_as : (v w : Scene) (r : Result (Unit {0}) Failure) (symbols : List Symbol) (breaks : Plan) (pages : Pages) (q p : Request) → q ≡ p → Shows v w r (shown symbols breaks pages p) → Shows v w r (shown symbols breaks pages q)
 shown_as v w r symbols breaks pages q p is h = subst (λ (z : Request). Shows v w r (shown symbols breaks pages z)) (sym is) h
 
 pub span_shown : (v w : Scene) (r : Result (Unit {0}) Failure) (symbols : List Symbol) (q p : Option Span) → q ≡ p → Shows v w r (disassembled_at symbols p) → Shows v w r (disassembled_at symbols q)
@@ -41,110 +43,115 @@ pub cleared_as : (v w : Scene) (r : Result (Unit {0}) Failure) (limits : Limits)
     ActsFrom v w r limits (cleared_act symbols p) → ActsFrom v w r limits (cleared_act symbols q)
 cleared_as v w r limits symbols q p is h = subst (λ (z : Option Expression). ActsFrom v w r limits (cleared_act symbols z)) (sym is) h
 
-pub cleared_left : (v : Scene) (r : Result (Unit {0}) Failure) (new : List ℕ) (symbols : List Symbol) (breaks : List ℕ) (q p : Option Expression) → q ≡ p →
+pub cleared_left : (v : Scene) (r : Result (Unit {0}) Failure) (new : Plan) (symbols : List Symbol) (breaks : Plan) (q p : Option Expression) → q ≡ p →
     BreaksFrom v r new (cleared symbols breaks p) → BreaksFrom v r new (cleared symbols breaks q)
 cleared_left v r new symbols breaks q p is h = subst (λ (z : Option Expression). BreaksFrom v r new (cleared symbols breaks z)) (sym is) h
 
-pub acts_as : (v w : Scene) (r : Result (Unit {0}) Failure) (limits : Limits) (symbols : List Symbol) (breaks : List ℕ) (pages : Pages) (q p : Request) → q ≡ p →
+pub acts_as : (v w : Scene) (r : Result (Unit {0}) Failure) (limits : Limits) (symbols : List Symbol) (breaks : Plan) (pages : Pages) (q p : Request) → q ≡ p →
     ActsFrom v w r limits (answered limits.steps symbols breaks pages p) → ActsFrom v w r limits (answered limits.steps symbols breaks pages q)
 acts_as v w r limits symbols breaks pages q p is h = subst (λ (z : Request). ActsFrom v w r limits (answered limits.steps symbols breaks pages z)) (sym is) h
 
-pub breaks_as : (v : Scene) (r : Result (Unit {0}) Failure) (new : List ℕ) (symbols : List Symbol) (breaks : List ℕ) (q p : Request) → q ≡ p →
+pub breaks_as : (v : Scene) (r : Result (Unit {0}) Failure) (new : Plan) (symbols : List Symbol) (breaks : Plan) (q p : Request) → q ≡ p →
     BreaksFrom v r new (breaks_after symbols breaks p) → BreaksFrom v r new (breaks_after symbols breaks q)
 breaks_as v r new symbols breaks q p is h = subst (λ (z : Request). BreaksFrom v r new (breaks_after symbols breaks z)) (sym is) h
 
-pub breaks_same : (v : Scene) (r : Result (Unit {0}) Failure) (symbols : List Symbol) (breaks : List ℕ) (q p : Request) → q ≡ p →
+pub breaks_same : (v : Scene) (r : Result (Unit {0}) Failure) (symbols : List Symbol) (breaks : Plan) (q p : Request) → q ≡ p →
     ((s : Session) → breaks ≡ breaks_after symbols breaks p s) → BreaksFrom v r breaks (breaks_after symbols breaks q)
 breaks_same v r symbols breaks q p is same =
     breaks_as v r breaks symbols breaks q p is (λ o s replies here. ok_if r (same s))
 
 -- a request that asks for something else shows nothing
-none_shown : (symbols : List Symbol) (breaks : List ℕ) (pages : Pages) (r : Request) (m : Flat) →
+none_shown : (symbols : List Symbol) (breaks : Plan) (pages : Pages) (r : Request) (m : Flat) →
     ((n : ℕ) → r ≡ request.ExamineRegister n → ⊥) → (r ≡ request.ExamineStatus → ⊥) → ((f : Form) (at : Span) → r ≡ request.ExamineMemory f at → ⊥) →
     ((at : Option Span) → r ≡ request.Disassemble at → ⊥) → (r ≡ request.Show → ⊥) → (r ≡ request.Where → ⊥) → ((n : ℕ) → r ≡ request.Stack n → ⊥) →
-    ((e : Expression) → r ≡ request.Queue e → ⊥) → ((c : Option Command) → r ≡ request.Help c → ⊥) → (r ≡ request.Pages → ⊥) → [] ≡ shown symbols breaks pages r m
-none_shown symbols breaks pages (request.ExamineRegister n) m a1 a2 a3 a4 a5 a6 a7 a8 a9 a10 = absurd (a1 n refl)
-none_shown symbols breaks pages request.ExamineStatus m a1 a2 a3 a4 a5 a6 a7 a8 a9 a10 = absurd (a2 refl)
-none_shown symbols breaks pages (request.ExamineMemory f at) m a1 a2 a3 a4 a5 a6 a7 a8 a9 a10 = absurd (a3 f at refl)
-none_shown symbols breaks pages (request.Disassemble at) m a1 a2 a3 a4 a5 a6 a7 a8 a9 a10 = absurd (a4 at refl)
-none_shown symbols breaks pages request.Show m a1 a2 a3 a4 a5 a6 a7 a8 a9 a10 = absurd (a5 refl)
-none_shown symbols breaks pages request.Where m a1 a2 a3 a4 a5 a6 a7 a8 a9 a10 = absurd (a6 refl)
-none_shown symbols breaks pages (request.Stack n) m a1 a2 a3 a4 a5 a6 a7 a8 a9 a10 = absurd (a7 n refl)
-none_shown symbols breaks pages (request.Queue e) m a1 a2 a3 a4 a5 a6 a7 a8 a9 a10 = absurd (a8 e refl)
-none_shown symbols breaks pages (request.Help c) m a1 a2 a3 a4 a5 a6 a7 a8 a9 a10 = absurd (a9 c refl)
-none_shown symbols breaks pages request.Pages m a1 a2 a3 a4 a5 a6 a7 a8 a9 a10 = absurd (a10 refl)
-none_shown symbols breaks pages r m a1 a2 a3 a4 a5 a6 a7 a8 a9 a10 = refl
+    ((e : Expression) → r ≡ request.Queue e → ⊥) → ((c : Option Command) → r ≡ request.Help c → ⊥) → (r ≡ request.Pages → ⊥) → (r ≡ request.ShowWatches → ⊥) → [] ≡ shown symbols breaks pages r m
+none_shown symbols breaks pages (request.ExamineRegister n) m a1 a2 a3 a4 a5 a6 a7 a8 a9 a10 a11 = absurd (a1 n refl)
+none_shown symbols breaks pages request.ExamineStatus m a1 a2 a3 a4 a5 a6 a7 a8 a9 a10 a11 = absurd (a2 refl)
+none_shown symbols breaks pages (request.ExamineMemory f at) m a1 a2 a3 a4 a5 a6 a7 a8 a9 a10 a11 = absurd (a3 f at refl)
+none_shown symbols breaks pages (request.Disassemble at) m a1 a2 a3 a4 a5 a6 a7 a8 a9 a10 a11 = absurd (a4 at refl)
+none_shown symbols breaks pages request.Show m a1 a2 a3 a4 a5 a6 a7 a8 a9 a10 a11 = absurd (a5 refl)
+none_shown symbols breaks pages request.Where m a1 a2 a3 a4 a5 a6 a7 a8 a9 a10 a11 = absurd (a6 refl)
+none_shown symbols breaks pages (request.Stack n) m a1 a2 a3 a4 a5 a6 a7 a8 a9 a10 a11 = absurd (a7 n refl)
+none_shown symbols breaks pages (request.Queue e) m a1 a2 a3 a4 a5 a6 a7 a8 a9 a10 a11 = absurd (a8 e refl)
+none_shown symbols breaks pages (request.Help c) m a1 a2 a3 a4 a5 a6 a7 a8 a9 a10 a11 = absurd (a9 c refl)
+none_shown symbols breaks pages request.Pages m a1 a2 a3 a4 a5 a6 a7 a8 a9 a10 a11 = absurd (a10 refl)
+none_shown symbols breaks pages request.ShowWatches m a1 a2 a3 a4 a5 a6 a7 a8 a9 a10 a11 = absurd (a11 refl)
+none_shown symbols breaks pages r m a1 a2 a3 a4 a5 a6 a7 a8 a9 a10 a11 = refl
 
-pub nothing_shown : (v : Scene) (symbols : List Symbol) (breaks : List ℕ) (pages : Pages) (r : Request) →
+pub nothing_shown : (v : Scene) (symbols : List Symbol) (breaks : Plan) (pages : Pages) (r : Request) →
     ((n : ℕ) → r ≡ request.ExamineRegister n → ⊥) → (r ≡ request.ExamineStatus → ⊥) → ((f : Form) (at : Span) → r ≡ request.ExamineMemory f at → ⊥) →
     ((at : Option Span) → r ≡ request.Disassemble at → ⊥) → (r ≡ request.Show → ⊥) → (r ≡ request.Where → ⊥) → ((n : ℕ) → r ≡ request.Stack n → ⊥) →
-    ((e : Expression) → r ≡ request.Queue e → ⊥) → ((c : Option Command) → r ≡ request.Help c → ⊥) → (r ≡ request.Pages → ⊥) → Shows v v (Ok tt) (shown symbols breaks pages r)
-nothing_shown v symbols breaks pages r a1 a2 a3 a4 a5 a6 a7 a8 a9 a10 =
-    replied_shows v v.sink (Ok tt) [] (shown symbols breaks pages r) (λ sink o s replies here. none_shown symbols breaks pages r s.machine a1 a2 a3 a4 a5 a6 a7 a8 a9 a10) (grew_nothing v.sink)
+    ((e : Expression) → r ≡ request.Queue e → ⊥) → ((c : Option Command) → r ≡ request.Help c → ⊥) → (r ≡ request.Pages → ⊥) → (r ≡ request.ShowWatches → ⊥) → Shows v v (Ok tt) (shown symbols breaks pages r)
+nothing_shown v symbols breaks pages r a1 a2 a3 a4 a5 a6 a7 a8 a9 a10 a11 =
+    replied_shows v v.sink (Ok tt) [] (shown symbols breaks pages r) (λ sink o s replies here. none_shown symbols breaks pages r s.machine a1 a2 a3 a4 a5 a6 a7 a8 a9 a10 a11) (grew_nothing v.sink)
 
 -- a request that does nothing else only shows
-rest_answered : (limit : ℕ) (symbols : List Symbol) (breaks : List ℕ) (pages : Pages) (r : Request) (s : Session) →
+rest_answered : (limit : ℕ) (symbols : List Symbol) (breaks : Plan) (pages : Pages) (r : Request) (s : Session) →
     ((n : ℕ) (e : Expression) → r ≡ request.DepositRegister n e → ⊥) → ((e : Expression) (given : Value) → r ≡ request.DepositMemory e given → ⊥) →
     ((n : ℕ) → r ≡ request.Step n → ⊥) → (r ≡ request.Over → ⊥) → (r ≡ request.Out → ⊥) → (r ≡ request.Go → ⊥) → ((e : Expression) → r ≡ request.Until e → ⊥) →
     ((e : Expression) → r ≡ request.Break e → ⊥) → ((e : Option Expression) → r ≡ request.Clear e → ⊥) → ((e : Expression) → r ≡ request.Evict e → ⊥) →
-    (r ≡ request.EvictAll → ⊥) → ((e : Expression) → r ≡ request.DepositStatus e → ⊥) → (r ≡ request.Turn → ⊥) → only_told s (shown symbols breaks pages r s.machine) ≡ answered limit symbols breaks pages r s
+    (r ≡ request.EvictAll → ⊥) → ((e : Expression) → r ≡ request.DepositStatus e → ⊥) → (r ≡ request.Turn → ⊥) → ((at : Span) → r ≡ request.Watch at → ⊥) → ((f : Field) (e : Expression) → r ≡ request.DepositField f e → ⊥) → only_told s (shown symbols breaks pages r s.machine) ≡ answered limit symbols breaks pages r s
 unfolding answered
-rest_answered limit symbols breaks pages (request.DepositRegister n e) s a1 a2 a3 a4 a5 a6 a7 a8 a9 b1 b2 b3 b4 = absurd (a1 n e refl)
-rest_answered limit symbols breaks pages (request.DepositMemory e given) s a1 a2 a3 a4 a5 a6 a7 a8 a9 b1 b2 b3 b4 = absurd (a2 e given refl)
-rest_answered limit symbols breaks pages (request.Step n) s a1 a2 a3 a4 a5 a6 a7 a8 a9 b1 b2 b3 b4 = absurd (a3 n refl)
-rest_answered limit symbols breaks pages request.Over s a1 a2 a3 a4 a5 a6 a7 a8 a9 b1 b2 b3 b4 = absurd (a4 refl)
-rest_answered limit symbols breaks pages request.Out s a1 a2 a3 a4 a5 a6 a7 a8 a9 b1 b2 b3 b4 = absurd (a5 refl)
-rest_answered limit symbols breaks pages request.Go s a1 a2 a3 a4 a5 a6 a7 a8 a9 b1 b2 b3 b4 = absurd (a6 refl)
-rest_answered limit symbols breaks pages (request.Until e) s a1 a2 a3 a4 a5 a6 a7 a8 a9 b1 b2 b3 b4 = absurd (a7 e refl)
-rest_answered limit symbols breaks pages (request.Break e) s a1 a2 a3 a4 a5 a6 a7 a8 a9 b1 b2 b3 b4 = absurd (a8 e refl)
-rest_answered limit symbols breaks pages (request.Clear e) s a1 a2 a3 a4 a5 a6 a7 a8 a9 b1 b2 b3 b4 = absurd (a9 e refl)
-rest_answered limit symbols breaks pages (request.Evict e) s a1 a2 a3 a4 a5 a6 a7 a8 a9 b1 b2 b3 b4 = absurd (b1 e refl)
-rest_answered limit symbols breaks pages request.EvictAll s a1 a2 a3 a4 a5 a6 a7 a8 a9 b1 b2 b3 b4 = absurd (b2 refl)
-rest_answered limit symbols breaks pages (request.DepositStatus e) s a1 a2 a3 a4 a5 a6 a7 a8 a9 b1 b2 b3 b4 = absurd (b3 e refl)
-rest_answered limit symbols breaks pages request.Turn s a1 a2 a3 a4 a5 a6 a7 a8 a9 b1 b2 b3 b4 = absurd (b4 refl)
-rest_answered limit symbols breaks pages r s a1 a2 a3 a4 a5 a6 a7 a8 a9 b1 b2 b3 b4 = refl
+rest_answered limit symbols breaks pages (request.DepositRegister n e) s a1 a2 a3 a4 a5 a6 a7 a8 a9 b1 b2 b3 b4 b5 b6 = absurd (a1 n e refl)
+rest_answered limit symbols breaks pages (request.DepositMemory e given) s a1 a2 a3 a4 a5 a6 a7 a8 a9 b1 b2 b3 b4 b5 b6 = absurd (a2 e given refl)
+rest_answered limit symbols breaks pages (request.Step n) s a1 a2 a3 a4 a5 a6 a7 a8 a9 b1 b2 b3 b4 b5 b6 = absurd (a3 n refl)
+rest_answered limit symbols breaks pages request.Over s a1 a2 a3 a4 a5 a6 a7 a8 a9 b1 b2 b3 b4 b5 b6 = absurd (a4 refl)
+rest_answered limit symbols breaks pages request.Out s a1 a2 a3 a4 a5 a6 a7 a8 a9 b1 b2 b3 b4 b5 b6 = absurd (a5 refl)
+rest_answered limit symbols breaks pages request.Go s a1 a2 a3 a4 a5 a6 a7 a8 a9 b1 b2 b3 b4 b5 b6 = absurd (a6 refl)
+rest_answered limit symbols breaks pages (request.Until e) s a1 a2 a3 a4 a5 a6 a7 a8 a9 b1 b2 b3 b4 b5 b6 = absurd (a7 e refl)
+rest_answered limit symbols breaks pages (request.Break e) s a1 a2 a3 a4 a5 a6 a7 a8 a9 b1 b2 b3 b4 b5 b6 = absurd (a8 e refl)
+rest_answered limit symbols breaks pages (request.Clear e) s a1 a2 a3 a4 a5 a6 a7 a8 a9 b1 b2 b3 b4 b5 b6 = absurd (a9 e refl)
+rest_answered limit symbols breaks pages (request.Evict e) s a1 a2 a3 a4 a5 a6 a7 a8 a9 b1 b2 b3 b4 b5 b6 = absurd (b1 e refl)
+rest_answered limit symbols breaks pages request.EvictAll s a1 a2 a3 a4 a5 a6 a7 a8 a9 b1 b2 b3 b4 b5 b6 = absurd (b2 refl)
+rest_answered limit symbols breaks pages (request.DepositStatus e) s a1 a2 a3 a4 a5 a6 a7 a8 a9 b1 b2 b3 b4 b5 b6 = absurd (b3 e refl)
+rest_answered limit symbols breaks pages request.Turn s a1 a2 a3 a4 a5 a6 a7 a8 a9 b1 b2 b3 b4 b5 b6 = absurd (b4 refl)
+rest_answered limit symbols breaks pages (request.Watch at) s a1 a2 a3 a4 a5 a6 a7 a8 a9 b1 b2 b3 b4 b5 b6 = absurd (b5 at refl)
+rest_answered limit symbols breaks pages (request.DepositField f e) s a1 a2 a3 a4 a5 a6 a7 a8 a9 b1 b2 b3 b4 b5 b6 = absurd (b6 f e refl)
+rest_answered limit symbols breaks pages r s a1 a2 a3 a4 a5 a6 a7 a8 a9 b1 b2 b3 b4 b5 b6 = refl
 
-pub rest_acts : (v w : Scene) (result : Result (Unit {0}) Failure) (limits : Limits) (symbols : List Symbol) (breaks : List ℕ) (pages : Pages) (r : Request) →
+pub rest_acts : (v w : Scene) (result : Result (Unit {0}) Failure) (limits : Limits) (symbols : List Symbol) (breaks : Plan) (pages : Pages) (r : Request) →
     ((n : ℕ) (e : Expression) → r ≡ request.DepositRegister n e → ⊥) → ((e : Expression) (given : Value) → r ≡ request.DepositMemory e given → ⊥) →
     ((n : ℕ) → r ≡ request.Step n → ⊥) → (r ≡ request.Over → ⊥) → (r ≡ request.Out → ⊥) → (r ≡ request.Go → ⊥) → ((e : Expression) → r ≡ request.Until e → ⊥) →
     ((e : Expression) → r ≡ request.Break e → ⊥) → ((e : Option Expression) → r ≡ request.Clear e → ⊥) → ((e : Expression) → r ≡ request.Evict e → ⊥) →
-    (r ≡ request.EvictAll → ⊥) → ((e : Expression) → r ≡ request.DepositStatus e → ⊥) → (r ≡ request.Turn → ⊥) → Shows v w result (shown symbols breaks pages r) → ActsFrom v w result limits (answered limits.steps symbols breaks pages r)
-rest_acts v w result limits symbols breaks pages r a1 a2 a3 a4 a5 a6 a7 a8 a9 b1 b2 b3 b4 p = λ o s replies here.
-    subst (λ (z : Act). Acts result limits.turns z o s replies w) (rest_answered limits.steps symbols breaks pages r s a1 a2 a3 a4 a5 a6 a7 a8 a9 b1 b2 b3 b4)
+    (r ≡ request.EvictAll → ⊥) → ((e : Expression) → r ≡ request.DepositStatus e → ⊥) → (r ≡ request.Turn → ⊥) → ((at : Span) → r ≡ request.Watch at → ⊥) → ((f : Field) (e : Expression) → r ≡ request.DepositField f e → ⊥) → Shows v w result (shown symbols breaks pages r) → ActsFrom v w result limits (answered limits.steps symbols breaks pages r)
+rest_acts v w result limits symbols breaks pages r a1 a2 a3 a4 a5 a6 a7 a8 a9 b1 b2 b3 b4 b5 b6 p = λ o s replies here.
+    subst (λ (z : Act). Acts result limits.turns z o s replies w) (rest_answered limits.steps symbols breaks pages r s a1 a2 a3 a4 a5 a6 a7 a8 a9 b1 b2 b3 b4 b5 b6)
     (shows_acts result limits.turns v w (shown symbols breaks pages r) o s replies p here)
 
-rest_kept : (symbols : List Symbol) (breaks : List ℕ) (r : Request) (s : Session) → ((e : Expression) → r ≡ request.Break e → ⊥) → ((e : Option Expression) → r ≡ request.Clear e → ⊥) → breaks ≡ breaks_after symbols breaks r s
+rest_kept : (symbols : List Symbol) (breaks : Plan) (r : Request) (s : Session) → ((e : Expression) → r ≡ request.Break e → ⊥) → ((e : Option Expression) → r ≡ request.Clear e → ⊥) → ((at : Span) → r ≡ request.Watch at → ⊥) → breaks ≡ breaks_after symbols breaks r s
 unfolding breaks_after
-rest_kept symbols breaks (request.Break e) s a1 a2 = absurd (a1 e refl)
-rest_kept symbols breaks (request.Clear e) s a1 a2 = absurd (a2 e refl)
-rest_kept symbols breaks r s a1 a2 = refl
+rest_kept symbols breaks (request.Break e) s a1 a2 a3 = absurd (a1 e refl)
+rest_kept symbols breaks (request.Clear e) s a1 a2 a3 = absurd (a2 e refl)
+rest_kept symbols breaks (request.Watch at) s a1 a2 a3 = absurd (a3 at refl)
+rest_kept symbols breaks r s a1 a2 a3 = refl
 
-pub rest_breaks : (v : Scene) (result : Result (Unit {0}) Failure) (symbols : List Symbol) (breaks : List ℕ) (r : Request) → ((e : Expression) → r ≡ request.Break e → ⊥) → ((e : Option Expression) → r ≡ request.Clear e → ⊥) →
+pub rest_breaks : (v : Scene) (result : Result (Unit {0}) Failure) (symbols : List Symbol) (breaks : Plan) (r : Request) → ((e : Expression) → r ≡ request.Break e → ⊥) → ((e : Option Expression) → r ≡ request.Clear e → ⊥) → ((at : Span) → r ≡ request.Watch at → ⊥) →
     BreaksFrom v result breaks (breaks_after symbols breaks r)
-rest_breaks v result symbols breaks r a1 a2 = λ o s replies here. ok_if result (rest_kept symbols breaks r s a1 a2)
+rest_breaks v result symbols breaks r a1 a2 a3 = λ o s replies here. ok_if result (rest_kept symbols breaks r s a1 a2 a3)
 
 -- lines
 
-pub not_quit : (r : Request) → (r ≡ request.Quit → ⊥) → false ≡ quits (Asks r)
-not_quit request.Quit n = absurd (n refl)
-not_quit r n = refl
+pub no_end : (r : Request) → (r ≡ request.Quit → ⊥) → (r ≡ request.Save → ⊥) → None ≡ end_asked (Asks r)
+no_end request.Quit n k = absurd (n refl)
+no_end request.Save n k = absurd (k refl)
+no_end r n k = refl
 
-pub line_acts_as : (v w : Scene) (r : Result (Unit {0}) Failure) (limits : Limits) (symbols : List Symbol) (breaks : List ℕ) (x : Exchange) (l k : Line) → l ≡ k →
+pub line_acts_as : (v w : Scene) (r : Result (Unit {0}) Failure) (limits : Limits) (symbols : List Symbol) (breaks : Plan) (x : Exchange) (l k : Line) → l ≡ k →
     ActsFrom v w r limits (carried_out limits.steps symbols breaks x k) → ActsFrom v w r limits (carried_out limits.steps symbols breaks x l)
 line_acts_as v w r limits symbols breaks x l k is h = subst (λ (z : Line). ActsFrom v w r limits (carried_out limits.steps symbols breaks x z)) (sym is) h
 
-pub line_breaks_as : (v : Scene) (r : Result (Unit {0}) Failure) (new : List ℕ) (symbols : List Symbol) (breaks : List ℕ) (l k : Line) → l ≡ k →
+pub line_breaks_as : (v : Scene) (r : Result (Unit {0}) Failure) (new : Plan) (symbols : List Symbol) (breaks : Plan) (l k : Line) → l ≡ k →
     BreaksFrom v r new (breaks_behind symbols breaks k) → BreaksFrom v r new (breaks_behind symbols breaks l)
 line_breaks_as v r new symbols breaks l k is h = subst (λ (z : Line). BreaksFrom v r new (breaks_behind symbols breaks z)) (sym is) h
 
-pub blank_acts : (v : Scene) (limits : Limits) (symbols : List Symbol) (breaks : List ℕ) (x : Exchange) (l : Line) → l ≡ Blank → ActsFrom v v (Ok tt) limits (carried_out limits.steps symbols breaks x l)
+pub blank_acts : (v : Scene) (limits : Limits) (symbols : List Symbol) (breaks : Plan) (x : Exchange) (l : Line) → l ≡ Blank → ActsFrom v v (Ok tt) limits (carried_out limits.steps symbols breaks x l)
 blank_acts v limits symbols breaks x l is =
     line_acts_as v v (Ok tt) limits symbols breaks x l Blank is (λ o s replies here. subst (λ (z : List ℕ). IsHere o s z v) (sym (append-nil replies)) here)
 
-pub blank_breaks : (v : Scene) (symbols : List Symbol) (breaks : List ℕ) (l : Line) → l ≡ Blank → BreaksFrom v (Ok tt) breaks (breaks_behind symbols breaks l)
+pub blank_breaks : (v : Scene) (symbols : List Symbol) (breaks : Plan) (l : Line) → l ≡ Blank → BreaksFrom v (Ok tt) breaks (breaks_behind symbols breaks l)
 blank_breaks v symbols breaks l is = line_breaks_as v (Ok tt) breaks symbols breaks l Blank is (λ o s replies here. refl)
 
-pub refused_acts : (v : Scene) (b : Option Channels) (r : Result (Unit {0}) Failure) (limits : Limits) (symbols : List Symbol) (breaks : List ℕ) (x : Exchange) (l : Line) (why : Refusal) → l ≡ Refused why →
+pub refused_acts : (v : Scene) (b : Option Channels) (r : Result (Unit {0}) Failure) (limits : Limits) (symbols : List Symbol) (breaks : Plan) (x : Exchange) (l : Line) (why : Refusal) → l ≡ Refused why →
     Replied r v.sink b (refused why x.line) → ActsFrom v (with_sink b v) r limits (carried_out limits.steps symbols breaks x l)
 refused_acts v b r limits symbols breaks x l why is p =
     line_acts_as v (with_sink b v) r limits symbols breaks x l (Refused why) is
@@ -152,5 +159,5 @@ refused_acts v b r limits symbols breaks x l why is p =
     shows_acts r limits.turns v (with_sink b v) (λ (m : Flat). refused why x.line) o s replies
     (replied_shows v b r (refused why x.line) (λ (m : Flat). refused why x.line) (λ sink o s replies here. refl) p) here)
 
-pub refused_breaks : (v : Scene) (r : Result (Unit {0}) Failure) (symbols : List Symbol) (breaks : List ℕ) (l : Line) (why : Refusal) → l ≡ Refused why → BreaksFrom v r breaks (breaks_behind symbols breaks l)
+pub refused_breaks : (v : Scene) (r : Result (Unit {0}) Failure) (symbols : List Symbol) (breaks : Plan) (l : Line) (why : Refusal) → l ≡ Refused why → BreaksFrom v r breaks (breaks_behind symbols breaks l)
 refused_breaks v r symbols breaks l why is = line_breaks_as v r breaks symbols breaks l (Refused why) is (λ o s replies here. ok_if r refl)

@@ -50,6 +50,7 @@ line_then a b c p q = record {
 
 pub failed_then : (e : SessionEnd) (a b c : Faults) → NoneFailed a b → Failed e b c → Failed e a c
 failed_then end.Quit a b c p q = none_then a b c p q
+failed_then end.Save a b c p q = none_then a b c p q
 failed_then end.Read a b c p q = none_then a b c p q
 failed_then end.Lines a b c p q = none_then a b c p q
 failed_then end.Turns a b c p q = none_then a b c p q
@@ -88,6 +89,7 @@ same_below m n e = omega (arith, e)
 
 pub file_later : (e : SessionEnd) (a b : Faults) → Failed e a b → a.file.count ≤ b.file.count
 file_later end.Quit a b p = same_below _ _ p.file
+file_later end.Save a b p = same_below _ _ p.file
 file_later end.Read a b p = same_below _ _ p.file
 file_later end.Lines a b p = same_below _ _ p.file
 file_later end.Turns a b p = same_below _ _ p.file
@@ -97,6 +99,7 @@ file_later end.LineFault a b p = same_below _ _ p.file
 
 pub sink_later : (e : SessionEnd) (a b : Faults) → Failed e a b → a.sink.count ≤ b.sink.count
 sink_later end.Quit a b p = same_below _ _ p.sink
+sink_later end.Save a b p = same_below _ _ p.sink
 sink_later end.Read a b p = same_below _ _ p.sink
 sink_later end.Lines a b p = same_below _ _ p.sink
 sink_later end.Turns a b p = same_below _ _ p.sink
@@ -106,6 +109,7 @@ sink_later end.LineFault a b p = same_below _ _ p.sink
 
 pub lines_later : (e : SessionEnd) (a b : Faults) → Failed e a b → a.lines.count ≤ b.lines.count
 lines_later end.Quit a b p = same_below _ _ p.lines
+lines_later end.Save a b p = same_below _ _ p.lines
 lines_later end.Read a b p = same_below _ _ p.lines
 lines_later end.Lines a b p = same_below _ _ p.lines
 lines_later end.Turns a b p = same_below _ _ p.lines
@@ -124,6 +128,7 @@ lines_cause e a b p is = (subst (λ (z : SessionEnd). Failed z a b) is p).cause
 
 pub file_still : (e : SessionEnd) (a b : Faults) → Failed e a b → e ≢ end.PageFault → e ≢ end.WriteFault → b.file.count ≡ a.file.count
 file_still end.Quit a b p n m = p.file
+file_still end.Save a b p n m = p.file
 file_still end.Read a b p n m = p.file
 file_still end.Lines a b p n m = p.file
 file_still end.Turns a b p n m = p.file
@@ -133,6 +138,7 @@ file_still end.LineFault a b p n m = p.file
 
 pub sink_still : (e : SessionEnd) (a b : Faults) → Failed e a b → e ≢ end.WriteFault → b.sink.count ≡ a.sink.count
 sink_still end.Quit a b p n = p.sink
+sink_still end.Save a b p n = p.sink
 sink_still end.Read a b p n = p.sink
 sink_still end.Lines a b p n = p.sink
 sink_still end.Turns a b p n = p.sink
@@ -142,6 +148,7 @@ sink_still end.LineFault a b p n = p.sink
 
 pub lines_still : (e : SessionEnd) (a b : Faults) → Failed e a b → e ≢ end.LineFault → b.lines.count ≡ a.lines.count
 lines_still end.Quit a b p n = p.lines
+lines_still end.Save a b p n = p.lines
 lines_still end.Read a b p n = p.lines
 lines_still end.Lines a b p n = p.lines
 lines_still end.Turns a b p n = p.lines
@@ -154,6 +161,7 @@ once_same a b e = λ n. absurd (n e)
 
 pub file_once : (e : SessionEnd) (a b : Faults) → Failed e a b → ChangesOnce a.file b.file
 file_once end.Quit a b p = once_same a.file b.file p.file
+file_once end.Save a b p = once_same a.file b.file p.file
 file_once end.Read a b p = once_same a.file b.file p.file
 file_once end.Lines a b p = once_same a.file b.file p.file
 file_once end.Turns a b p = once_same a.file b.file p.file

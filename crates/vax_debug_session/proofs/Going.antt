@@ -3,6 +3,7 @@ use Rattle.std.proofs.Common.{◌≡◌, ℕ, ◌+◌, ◌-◌, ◌^◌, List, [
 use Rattle.vax_input.specs.Lines.{Takes}
 use Rattle.vax_console.specs.Ends.{Scene}
 use Rattle.vax_debug_acts.specs.Sessions.{IsHere}
+use Rattle.vax_debug_acts.specs.Plan.{Plan}
 use Rattle.vax_debug_session.specs.Exchanges.{lines_of}
 use Rattle.vax_debug_session.specs.Requests.{Held, held}
 use Rattle.vax_debug_session.specs.Holding.{Ends, Holds, Terms, Took, held_after, stage, transcript}
@@ -12,10 +13,10 @@ use Rattle.vax_debug_session.specs.declared.SessionEnd.TheVariants as end
 use Rattle.vax_debug_session.proofs.Folding.{asked_on, at_both, ends_on, going_on, held_after_on, lines_both, none_after, none_told, takes_none, takes_on, took_on}
 
 -- a session with its breaks, by name
-held_is : (h : Held) (breaks : List ℕ) → breaks ≡ h.breaks → held h.session breaks ≡ h
-held_is h breaks e = ap (λ (z : List ℕ). held h.session z) e
+held_is : (h : Held) (breaks : Plan) → breaks ≡ h.breaks → held h.session breaks ≡ h
+held_is h breaks e = ap (λ (z : Plan). held h.session z) e
 
-pub holding_first : (g : Terms) (breaks : List ℕ) (v : Scene) (c : Option (List (List ℕ))) → IsHolding g breaks breaks 0 (stage v v c c)
+pub holding_first : (g : Terms) (breaks : Plan) (v : Scene) (c : Option (List (List ℕ))) → IsHolding g breaks breaks 0 (stage v v c c)
 holding_first g breaks v c = record {
   lines = [];
   many = refl;
@@ -28,7 +29,7 @@ holding_first g breaks v c = record {
 }
 
 -- a line more
-pub holding_then : (g : Terms) (a b e : List ℕ) (m n : ℕ) (u v w : Scene) (c d f : Option (List (List ℕ))) → IsHolding g a b m (stage u v c d) → IsHolding g b e n (stage v w d f) → IsHolding g a e (m + n) (stage u w c f)
+pub holding_then : (g : Terms) (a b e : Plan) (m n : ℕ) (u v w : Scene) (c d f : Option (List (List ℕ))) → IsHolding g a b m (stage u v c d) → IsHolding g b e n (stage v w d f) → IsHolding g a e (m + n) (stage u w c f)
 holding_then g a b e m n u v w c d f p q = record {
   lines = p.lines ++ q.lines;
   many = length-append p.lines q.lines ∙ (ap (λ (k : ℕ). k + length q.lines) p.many ∙ ap (λ (k : ℕ). m + k) q.many);
@@ -48,7 +49,7 @@ holding_then g a b e m n u v w c d f p q = record {
 }
 
 -- the end behind lines
-ends_then : (g : Terms) (a b : List ℕ) (m : ℕ) (e : SessionEnd) (u v w : Scene) (c d f : Option (List (List ℕ))) → (e ≡ end.Lines → ⊥) → IsHolding g a b m (stage u v c d) → Holds g b e (stage v w d f) → Holds g a e (stage u w c f)
+ends_then : (g : Terms) (a b : Plan) (m : ℕ) (e : SessionEnd) (u v w : Scene) (c d f : Option (List (List ℕ))) → (e ≡ end.Lines → ⊥) → IsHolding g a b m (stage u v c d) → Holds g b e (stage v w d f) → Holds g a e (stage u w c f)
 ends_then g a b m e u v w c d f few p q = record {
   lines = p.lines ++ q.lines;
   took = subst (λ (z : List (List ℕ)). Took e c f z) (sym (lines_both p.lines q.lines)) (took_on e c d f (lines_of p.lines) (lines_of q.lines) p.took q.took);
@@ -61,8 +62,9 @@ ends_then g a b m e u v w c d f few p q = record {
       (q.goes o t.session told (p.here o s replies here)));
 }
 
-pub holding_ends : (e : SessionEnd) (g : Terms) (a b new : List ℕ) (m : ℕ) (u v w : Scene) (c d f : Option (List (List ℕ))) → IsHolding g a b m (stage u v c d) → HoldsOn (Some e) g b new (stage v w d f) → Holds g a e (stage u w c f)
+pub holding_ends : (e : SessionEnd) (g : Terms) (a b new : Plan) (m : ℕ) (u v w : Scene) (c d f : Option (List (List ℕ))) → IsHolding g a b m (stage u v c d) → HoldsOn (Some e) g b new (stage v w d f) → Holds g a e (stage u w c f)
 holding_ends end.Quit g a b new m u v w c d f p q = ends_then g a b m end.Quit u v w c d f (λ is. cc is) p q
+holding_ends end.Save g a b new m u v w c d f p q = ends_then g a b m end.Save u v w c d f (λ is. cc is) p q
 holding_ends end.Read g a b new m u v w c d f p q = ends_then g a b m end.Read u v w c d f (λ is. cc is) p q
 holding_ends end.Lines g a b new m u v w c d f p q = absurd q
 holding_ends end.Turns g a b new m u v w c d f p q = ends_then g a b m end.Turns u v w c d f (λ is. cc is) p q
@@ -71,7 +73,7 @@ holding_ends end.WriteFault g a b new m u v w c d f p q = ends_then g a b m end.
 holding_ends end.LineFault g a b new m u v w c d f p q = ends_then g a b m end.LineFault u v w c d f (λ is. cc is) p q
 
 -- the most lines were carried out
-pub holding_done : (g : Terms) (a b : List ℕ) (m : ℕ) (u v : Scene) (c d : Option (List (List ℕ))) → m ≡ 2 ^ 64 - 1 → IsHolding g a b m (stage u v c d) → Holds g a end.Lines (stage u v c d)
+pub holding_done : (g : Terms) (a b : Plan) (m : ℕ) (u v : Scene) (c d : Option (List (List ℕ))) → m ≡ 2 ^ 64 - 1 → IsHolding g a b m (stage u v c d) → Holds g a end.Lines (stage u v c d)
 holding_done g a b m u v c d all p = record {
   lines = p.lines;
   took = p.took;

@@ -1,5 +1,5 @@
 -- A session with a debugger: a fold over its lines, on the flat machine, and how it ends.
-use Rattle.std.specs.Prelude.{ℕ, ◌≡◌, ◌-◌, ◌^◌, ◌⊎◌, Bool, true, false, if◌then◌else◌, List, [], ◌∷◌, ◌++◌, codes, length, Option, Err}
+use Rattle.std.specs.Prelude.{ℕ, ◌≡◌, ◌-◌, ◌^◌, ◌⊎◌, Bool, false, if◌then◌else◌, List, [], ◌∷◌, ◌++◌, codes, length, Option, None, Some, is_some, Err}
 use Rattle.std.specs.List.{list_any}
 use Rattle.vax_input.specs.Lines.{IsAtEnd, Takes}
 use Rattle.vax_machine.specs.declared.event.Limits.{Limits}
@@ -7,6 +7,7 @@ use Rattle.vax_console.specs.Transcript.{Session}
 use Rattle.vax_console.specs.Ends.{Scene}
 use Rattle.vax_debug_acts.specs.Sessions.{IsHere, Origin}
 use Rattle.vax_debug_acts.specs.Failure.{Failure}
+use Rattle.vax_debug_acts.specs.Plan.{Plan}
 use Rattle.vax_debug_acts.specs.Failure.TheVariants as failure
 use Rattle.vax_debug_words.specs.Requests.{line_of}
 use Rattle.vax_debug_words.specs.declared.request.Line.{Line}
@@ -37,12 +38,12 @@ abbrev pub prompt : Bool → List ℕ
 prompt prompts = if prompts then codes "vax> " else []
 
 -- what a line comes to: a blank one to nothing, and one that isn't understood to what may have been meant
-abbrev pub carried_out : (limit : ℕ) → List Symbol → List ℕ → Exchange → Line → Session → Act
+abbrev pub carried_out : (limit : ℕ) → List Symbol → Plan → Exchange → Line → Session → Act
 carried_out limit symbols breaks x Blank s = only_told s []
 carried_out limit symbols breaks x (Asks r) s = answered limit symbols breaks x.pages r s
 carried_out limit symbols breaks x (Refused why) s = only_told s (refused why x.line)
 
-abbrev pub breaks_behind : List Symbol → List ℕ → Line → Session → List ℕ
+abbrev pub breaks_behind : List Symbol → Plan → Line → Session → Plan
 breaks_behind symbols breaks Blank s = breaks
 breaks_behind symbols breaks (Asks r) s = breaks_after symbols breaks r s
 breaks_behind symbols breaks (Refused why) s = breaks
@@ -70,29 +71,34 @@ held_after g h (x ∷ xs) = held_after g (after_line g h x) xs
 
 -- lines
 
-abbrev pub quits : Line → Bool
-quits (Asks request.Quit) = true
-quits l = false
+-- what a line asks for that a session ends with
+abbrev pub end_asked : Line → Option SessionEnd
+end_asked (Asks request.Quit) = Some end.Quit
+end_asked (Asks request.Save) = Some end.Save
+end_asked l = None
 
--- a line asks for the end
-abbrev pub is_quit : Exchange → Bool
-is_quit x = quits (line_of x.line)
+abbrev pub end_by : Exchange → Option SessionEnd
+end_by x = end_asked (line_of x.line)
 
--- none of them does
+abbrev pub asks_end : Exchange → Bool
+asks_end x = is_some (end_by x)
+
+-- none of them asks for an end
 abbrev pub GoesOn : List Exchange → Type 0
-GoesOn lines = list_any is_quit lines ≡ false
+GoesOn lines = list_any asks_end lines ≡ false
 
 -- the last one does, and it alone
-pub record IsQuitAtLast (lines : List Exchange) : Type 0 where
+pub record IsAskedAtLast (e : SessionEnd) (lines : List Exchange) : Type 0 where
   pub front : List Exchange
   pub last : Exchange
   pub splits : lines ≡ front ++ last ∷ []
   pub going : GoesOn front
-  pub quits : is_quit last ≡ true
+  pub asks : end_by last ≡ Some e
 
 -- which lines a session that ends so may have
 abbrev pub Asked : SessionEnd → List Exchange → Type 0
-Asked end.Quit lines = IsQuitAtLast lines
+Asked end.Quit lines = IsAskedAtLast end.Quit lines
+Asked end.Save lines = IsAskedAtLast end.Save lines
 Asked end.Read lines = GoesOn lines
 Asked end.Lines lines = GoesOn lines × (length lines ≡ 2 ^ 64 - 1)
 Asked end.Turns lines = GoesOn lines
@@ -103,6 +109,7 @@ Asked end.LineFault lines = GoesOn lines
 -- These lines were taken. Behind a line that couldn't be read it is open which are still to come.
 abbrev pub Took : SessionEnd → (before now : Option (List (List ℕ))) → List (List ℕ) → Type 0
 Took end.Quit before now lines = Takes before now lines
+Took end.Save before now lines = Takes before now lines
 Took end.Read before now lines = Takes before now lines × IsAtEnd now now
 Took end.Lines before now lines = Takes before now lines
 Took end.Turns before now lines = Takes before now lines
@@ -129,6 +136,7 @@ IsUnprompted g h lines o replies v = IsToldInPart o (held_after g h lines).sessi
 
 abbrev pub Ends : SessionEnd → Terms → Held → List Exchange → Origin → (replies : List ℕ) → Scene → Type 0
 Ends end.Quit g h lines o replies v = IsHeld g h lines [] o replies v
+Ends end.Save g h lines o replies v = IsHeld g h lines [] o replies v
 Ends end.Read g h lines o replies v = IsHeld g h lines (prompt g.prompts) o replies v
 Ends end.Lines g h lines o replies v = IsHeld g h lines [] o replies v
 Ends end.Turns g h lines o replies v = IsCutShort failure.Turns g h lines o replies v
@@ -147,7 +155,7 @@ abbrev pub stage : (before after : Scene) → (coming left : Option (List (List 
 stage before after coming left = record { before = before; after = after; coming = coming; left = left }
 
 -- Lines were taken, and the session ends so behind them, in each session that the machine makes.
-pub record Holds (g : Terms) (breaks : List ℕ) (e : SessionEnd) (v : Stage) : Type 0 where
+pub record Holds (g : Terms) (breaks : Plan) (e : SessionEnd) (v : Stage) : Type 0 where
   pub lines : List Exchange
   pub took : Took e v.coming v.left (lines_of lines)
   pub asked : Asked e lines

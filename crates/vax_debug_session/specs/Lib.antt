@@ -6,3 +6,5 @@ pub mod Faults
 pub use Rattle.vax_debug_acts.specs.Acting
 pub use Rattle.vax_debug_acts.specs.Sessions
 pub use Rattle.vax_debug_acts.specs.Failure
+pub use Rattle.vax_debug_acts.specs.Plan
+pub use Rattle.vax_debug_acts.specs.Plans

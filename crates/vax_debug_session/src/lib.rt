@@ -5,17 +5,18 @@
 //! memory.
 #![tactic(auto)]
 
-ghost use Rattle.std.specs.Prelude.{◌≡◌, ◌≢◌, ◌<◌, ◌≤◌, ◌^◌, ◌-◌, []};
+ghost use Rattle.std.specs.Prelude.{◌≡◌, ◌≢◌, ◌<◌, ◌≤◌, ◌^◌, ◌-◌};
 ghost use Rattle.vax_outside.specs.Faults.{Rose};
 ghost use Rattle.vax_machine.specs.Meaning.{engine};
 ghost use Rattle.vax_console.specs.Ends.{ChangesOnce, OnlyReplied, scene};
+ghost use Rattle.vax_debug_acts.specs.Plans.{no_plan};
 ghost use Rattle.vax_debug_session.specs.Holding.{Holds, stage, terms};
 
 mod requests;
 mod turns;
 
 use crate::turns::hold_line;
-use vax_debug_acts::Breaks;
+use vax_debug_acts::Plan;
 pub use vax_debug_acts::Setting;
 use vax_input::Lines;
 use vax_machine::Machine;
@@ -26,6 +27,8 @@ use vax_outside::{PageFile, Sink};
 pub enum SessionEnd {
     /// A line asked for the end.
     Quit,
+    /// A line asked for the state to be saved, and for the end: that is the caller's to do.
+    Save,
     /// No line was left.
     Read,
     /// As many lines were answered as 64 bits count.
@@ -44,7 +47,7 @@ pub enum SessionEnd {
 /// `vax> ` is written to Report before each line is read. No write is kept back: each has been handed to the sink before the next line is asked for.
 ///
 /// A line that isn't understood changes nothing, and its reply says what may have been meant. A blank one has no reply. The session goes on until a line
-/// asks for the end, no line is left, the limit of turns is reached, or a call of the page file, a write or the reading of a line fails. Steps stop at no address
+/// asks for the end or for the state to be saved, no line is left, the limit of turns is reached, or a call of the page file, a write or the reading of a line fails. Steps stop at no address
 /// at its start.
 pub fn hold<L: Lines, F: PageFile, K: Sink>(
     lines: &mut L,
@@ -55,7 +58,7 @@ pub fn hold<L: Lines, F: PageFile, K: Sink>(
     sink: &mut K,
 ) -> SessionEnd
     requires few_turns { setting.now.limits.now.turns < 2 ^ 64 - 2 }
-    ensures holds { Holds (terms setting.now.limits.now setting.now.symbols.now prompts) [] result
+    ensures holds { Holds (terms setting.now.limits.now setting.now.symbols.now prompts) no_plan result
         (stage (scene (engine machine.old) (F.contents file.old) (K.contents sink.old))
         (scene (engine machine.new) (F.contents file.new) (K.contents sink.new))
         (L.rest lines.old) (L.rest lines.new)) }
@@ -74,7 +77,7 @@ pub fn hold<L: Lines, F: PageFile, K: Sink>(
     ensures whole { result ≢ SessionEnd.LineFault →
         (L.faults lines.new).count ≡ (L.faults lines.old).count }
 {
-    let mut breaks = Breaks::new();
+    let mut breaks = Plan::new();
     for _ in 0..u64::MAX {
         match hold_line(lines, prompts, setting, &mut breaks, machine, file, sink) {
             None => {}

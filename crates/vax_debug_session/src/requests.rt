@@ -11,13 +11,14 @@ ghost use Rattle.vax_debug_acts.specs.Acting.{ActsFrom, BreaksFrom};
 ghost use Rattle.vax_debug_session.specs.Requests.{answered, breaks_after, cleared, cleared_act, disassembled_at, shown};
 
 use vax_debug_acts::{
-    Breaks, Failure, Setting, clear_all, clear_at, deposit_into_memory, deposit_into_register,
-    deposit_into_status, evict_all, evict_at, go, leave, over, step, stop_at, turn, until,
+    Failure, Plan, Setting, clear_all, clear_at, deposit_into_field, deposit_into_memory,
+    deposit_into_register, deposit_into_status, evict_all, evict_at, go, leave, over, step,
+    stop_at, turn, until, watch,
 };
 use vax_debug_names::Symbol;
 use vax_debug_views::{
     disassemble, disassemble_here, show_breaks, show_frames, show_help, show_memory, show_pages,
-    show_queue, show_register, show_stack, show_status,
+    show_queue, show_register, show_stack, show_status, show_watches,
 };
 use vax_debug_words::{Expression, Request, Span};
 use vax_machine::Machine;
@@ -50,7 +51,7 @@ fn disassemble_at<F: PageFile, K: Sink>(
 fn show<F: PageFile, K: Sink>(
     request: &Request,
     symbols: &[Symbol],
-    breaks: &Breaks,
+    breaks: &Plan,
     machine: &mut Machine,
     file: &mut F,
     sink: &mut K,
@@ -70,7 +71,8 @@ fn show<F: PageFile, K: Sink>(
             show_memory(*form, span, symbols, machine, file, sink)
         }
         Request::Disassemble(span) => disassemble_at(span, symbols, machine, file, sink),
-        Request::Show => show_breaks(symbols, breaks, sink),
+        Request::Show => show_breaks(symbols, &breaks.breaks, sink),
+        Request::ShowWatches => show_watches(symbols, &breaks.watches, sink),
         Request::Where => show_frames(symbols, machine, file, sink),
         Request::Stack(count) => show_stack(*count, symbols, machine, file, sink),
         Request::Queue(head) => show_queue(head, symbols, machine, file, sink),
@@ -84,7 +86,7 @@ fn show<F: PageFile, K: Sink>(
 fn clear<F: PageFile, K: Sink>(
     at: &Option<Expression>,
     setting: &Setting,
-    breaks: &mut Breaks,
+    breaks: &mut Plan,
     machine: &mut Machine,
     file: &mut F,
     sink: &mut K,
@@ -113,7 +115,7 @@ fn clear<F: PageFile, K: Sink>(
 pub(crate) fn answer<F: PageFile, K: Sink>(
     request: &Request,
     setting: &Setting,
-    breaks: &mut Breaks,
+    breaks: &mut Plan,
     machine: &mut Machine,
     file: &mut F,
     sink: &mut K,
@@ -143,12 +145,16 @@ pub(crate) fn answer<F: PageFile, K: Sink>(
         Request::DepositStatus(value) => {
             deposit_into_status(value, setting, machine, file, sink)
         }
+        Request::DepositField(field, value) => {
+            deposit_into_field(*field, value, setting, machine, file, sink)
+        }
         Request::Step(count) => step(*count, setting, breaks, machine, file, sink),
         Request::Over => over(setting, breaks, machine, file, sink),
         Request::Out => leave(setting, breaks, machine, file, sink),
         Request::Go => go(setting, breaks, machine, file, sink),
         Request::Until(to) => until(to, setting, breaks, machine, file, sink),
         Request::Break(at) => stop_at(at, setting, breaks, machine, file, sink),
+        Request::Watch(at) => watch(at, setting, breaks, machine, file, sink),
         Request::Clear(at) => clear(at, setting, breaks, machine, file, sink),
         Request::Turn => turn(setting, breaks, machine, file, sink),
         Request::Evict(at) => evict_at(at, setting, machine, file, sink),

@@ -12,36 +12,37 @@ ghost use Rattle.vax_debug_words.specs.declared.request.Line.TheVariants as line
 ghost use Rattle.vax_debug_acts.specs.Acting.{ActsFrom, BreaksFrom};
 ghost use Rattle.vax_debug_session.specs.Exchanges.{exchange};
 ghost use Rattle.vax_debug_session.specs.Faults.{FailedIf, faults_of};
-ghost use Rattle.vax_debug_session.specs.Holding.{breaks_behind, carried_out, prompt, quits, stage, terms};
+ghost use Rattle.vax_debug_session.specs.Holding.{breaks_behind, carried_out, end_asked, prompt, stage, terms};
 ghost use Rattle.vax_debug_session.specs.Turns.{Answers, HoldsOn, end_of};
 
 use crate::SessionEnd;
 use crate::requests::answer;
-use vax_debug_acts::{Breaks, Failure, Setting};
+use vax_debug_acts::{Failure, Plan, Setting};
 use vax_debug_views::show_refusal;
 use vax_debug_words::{Line as Said, Request, read_line};
 use vax_input::{Line, Lines};
 use vax_machine::Machine;
 use vax_outside::{Chan, Failed, PageFile, Sink, put_all};
 
-/// Whether a request is for the end.
-fn is_end(request: &Request) -> bool
-    ensures { result ≡ quits (line.Request request.now) }
+/// The end that a request is for, if it is for one.
+fn end_for(request: &Request) -> Option<SessionEnd>
+    ensures { result ≡ end_asked (line.Request request.now) }
 {
     match request {
-        Request::Quit => true,
-        _ => false,
+        Request::Quit => Some(SessionEnd::Quit),
+        Request::Save => Some(SessionEnd::Save),
+        _ => None,
     }
 }
 
-/// Whether a line asks for the end.
-fn quits(said: &Said) -> bool
-    ensures { result ≡ quits said.now }
+/// The end that a line asks for, if it asks for one.
+fn end_asked(said: &Said) -> Option<SessionEnd>
+    ensures { result ≡ end_asked said.now }
 {
     match said {
-        Said::Request(request) => is_end(request),
-        Said::Blank => false,
-        Said::Refused(_) => false,
+        Said::Request(request) => end_for(request),
+        Said::Blank => None,
+        Said::Refused(_) => None,
     }
 }
 
@@ -50,7 +51,7 @@ fn carry_out<F: PageFile, K: Sink>(
     said: &Said,
     line: &[u8],
     setting: &Setting,
-    breaks: &mut Breaks,
+    breaks: &mut Plan,
     machine: &mut Machine,
     file: &mut F,
     sink: &mut K,
@@ -92,7 +93,7 @@ fn end_of(failure: Failure) -> SessionEnd
 fn answer_line<F: PageFile, K: Sink>(
     line: &[u8],
     setting: &Setting,
-    breaks: &mut Breaks,
+    breaks: &mut Plan,
     machine: &mut Machine,
     file: &mut F,
     sink: &mut K,
@@ -109,8 +110,9 @@ fn answer_line<F: PageFile, K: Sink>(
     ensures only { OnlyReplied (K.contents sink.old) (K.contents sink.new) }
 {
     let said = read_line(line);
-    if quits(&said) {
-        return Some(SessionEnd::Quit);
+    match end_asked(&said) {
+        Some(end) => return Some(end),
+        None => {}
     }
     match carry_out(&said, line, setting, breaks, machine, file, sink) {
         Ok(()) => None,
@@ -138,7 +140,7 @@ pub(crate) fn hold_line<L: Lines, F: PageFile, K: Sink>(
     lines: &mut L,
     prompts: bool,
     setting: &Setting,
-    breaks: &mut Breaks,
+    breaks: &mut Plan,
     machine: &mut Machine,
     file: &mut F,
     sink: &mut K,

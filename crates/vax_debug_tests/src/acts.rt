@@ -3,10 +3,9 @@ ghost use Rattle.vax_debug_words.specs.Expressions.{IsExpression};
 
 use crate::steps::{CALLS, PROCEDURE, SUBROUTINE, machine_with, surroundings};
 use std::test::Fail;
-use vax_debug::Breaks;
 use vax_debug_acts::{
-    Setting, clear_all, clear_at, deposit_into_memory, deposit_into_register, evict_all, evict_at,
-    go, leave, over, step, stop_at, until,
+    Plan, Setting, clear_all, clear_at, deposit_into_memory, deposit_into_register, evict_all,
+    evict_at, go, leave, over, step, stop_at, until,
 };
 use vax_debug_words::{Base, Expression, Size, Value};
 use vax_outside::Chan;
@@ -32,30 +31,30 @@ fn a_break_is_made_and_cleared(rt: HostRuntime) -> Result<(), Fail> {
         limits: &a.limits,
         schedule: &a.schedule,
     };
-    let mut breaks = Breaks::new();
+    let mut plan = Plan::new();
     let at = number(SUBROUTINE);
     let end = stop_at(
         &at,
         &setting,
-        &mut breaks,
+        &mut plan,
         &mut machine,
         &mut a.file,
         &mut a.sink,
     );
     assert!(rt; end.is_ok());
-    let end = go(&setting, &breaks, &mut machine, &mut a.file, &mut a.sink);
+    let end = go(&setting, &plan, &mut machine, &mut a.file, &mut a.sink);
     assert!(rt; end.is_ok());
     let end = clear_at(
         &at,
         &setting,
-        &mut breaks,
+        &mut plan,
         &mut machine,
         &mut a.file,
         &mut a.sink,
     );
     assert!(rt; end.is_ok());
-    assert!(rt; !breaks.has(SUBROUTINE));
-    assert!(rt; clear_all(&mut breaks, &mut a.sink).is_ok());
+    assert!(rt; !plan.breaks.has(SUBROUTINE));
+    assert!(rt; clear_all(&mut plan, &mut a.sink).is_ok());
     assert!(rt;
         a.sink.bytes(Chan::Report)
             == b"BREAK 80000206\nENDING BREAK\nAT 80000206: INCL R2\nOK\nOK\n".as_slice()
@@ -73,7 +72,7 @@ fn steps_tell_where_they_stop(rt: HostRuntime) -> Result<(), Fail> {
         limits: &a.limits,
         schedule: &a.schedule,
     };
-    let none = Breaks::new();
+    let none = Plan::new();
     let end = step(1, &setting, &none, &mut machine, &mut a.file, &mut a.sink);
     assert!(rt; end.is_ok());
     let end = over(&setting, &none, &mut machine, &mut a.file, &mut a.sink);
@@ -104,7 +103,7 @@ fn a_procedure_is_left_and_told(rt: HostRuntime) -> Result<(), Fail> {
         limits: &a.limits,
         schedule: &a.schedule,
     };
-    let none = Breaks::new();
+    let none = Plan::new();
     let end = step(1, &setting, &none, &mut machine, &mut a.file, &mut a.sink);
     assert!(rt; end.is_ok());
     let end = leave(&setting, &none, &mut machine, &mut a.file, &mut a.sink);
@@ -179,7 +178,7 @@ fn absent_pages_lose_no_byte(rt: HostRuntime) -> Result<(), Fail> {
     let end = step(
         1,
         &setting,
-        &Breaks::new(),
+        &Plan::new(),
         &mut machine,
         &mut a.file,
         &mut a.sink,

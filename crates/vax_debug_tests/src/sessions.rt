@@ -44,6 +44,32 @@ fn each_line_is_answered(rt: HostRuntime) -> Result<(), Fail> {
 }
 
 #[test]
+fn a_session_ends_where_it_is_to_be_saved(rt: HostRuntime) -> Result<(), Fail> {
+    let mut machine = machine_with(rt.alloc(), &CALLS)?;
+    let mut a = surroundings(rt.alloc())?;
+    let mut sink = MemSink::new(rt.alloc(), [100, 400, 0], 100, Vec::new(rt.alloc()))?;
+    assert!(rt; a.limits.turns <= 1_000);
+    let setting = Setting {
+        symbols: &[],
+        limits: &a.limits,
+        schedule: &a.schedule,
+    };
+    let mut lines = MemLines::new(b"step\nsave\nstep\n");
+    let end = hold(
+        &mut lines,
+        true,
+        &setting,
+        &mut machine,
+        &mut a.file,
+        &mut sink,
+    );
+    assert!(rt; end == SessionEnd::Save);
+    assert!(rt; machine.steps() == 1);
+    assert!(rt; sink.bytes(Chan::Report) == b"vax> AT 80000206: INCL R2\nvax> ".as_slice());
+    Ok(())
+}
+
+#[test]
 fn a_prompt_stands_before_each_line(rt: HostRuntime) -> Result<(), Fail> {
     let mut machine = machine_with(rt.alloc(), &CALLS)?;
     let mut a = surroundings(rt.alloc())?;
@@ -137,6 +163,84 @@ fn attempts_and_pages_are_told(rt: HostRuntime) -> Result<(), Fail> {
             OK\n\
             R14 800005FC\n\
             ?NO SUCH STATUS\n"
+                .as_slice()
+    );
+    Ok(())
+}
+
+#[test]
+fn a_watch_stops_behind_a_change(rt: HostRuntime) -> Result<(), Fail> {
+    let mut machine = machine_with(rt.alloc(), &CALLS)?;
+    let mut a = surroundings(rt.alloc())?;
+    let mut sink = MemSink::new(rt.alloc(), [100, 700, 0], 100, Vec::new(rt.alloc()))?;
+    assert!(rt; a.limits.turns <= 1_000);
+    let setting = Setting {
+        symbols: &[],
+        limits: &a.limits,
+        schedule: &a.schedule,
+    };
+    // BSBB pushes 80000202; a deposit is no change; a stop and a change come together
+    let text = b"show watches\nwatch 800005fc\nwatch 800005fd 1\nshow watches\nevict all\ngo\n\
+        clear 800005fd\ndep pc 80000200\ndep sp 80000600\ndep 800005fc 7\nbreak 80000206\n\
+        step 3\nclear\nshow watches\n";
+    let mut lines = MemLines::new(text);
+    let end = hold(
+        &mut lines,
+        false,
+        &setting,
+        &mut machine,
+        &mut a.file,
+        &mut sink,
+    );
+    assert!(rt; end == SessionEnd::Read);
+    assert!(rt;
+        sink.bytes(Chan::Report)
+            == b"NO WATCHES\n\
+            WATCH 800005FC: 4\n\
+            WATCH 800005FD: 1\n\
+            WATCH 800005FC: 4\nWATCH 800005FD: 1\n\
+            OK\n\
+            WATCH 800005FC: 00000000 -> 80000202\nWATCH 800005FD: 00 -> 02\nAT 80000206: INCL R2\n\
+            OK\nOK\nOK\nOK\n\
+            BREAK 80000206\n\
+            ENDING BREAK\nWATCH 800005FC: 00000007 -> 80000202\nAT 80000206: INCL R2\n\
+            OK\n\
+            NO WATCHES\n"
+                .as_slice()
+    );
+    Ok(())
+}
+
+#[test]
+fn a_field_of_the_status_is_changed(rt: HostRuntime) -> Result<(), Fail> {
+    let mut machine = machine_with(rt.alloc(), &CALLS)?;
+    let mut a = surroundings(rt.alloc())?;
+    let mut sink = MemSink::new(rt.alloc(), [100, 400, 0], 100, Vec::new(rt.alloc()))?;
+    assert!(rt; a.limits.turns <= 1_000);
+    let setting = Setting {
+        symbols: &[],
+        limits: &a.limits,
+        schedule: &a.schedule,
+    };
+    let text =
+        b"dep psl.n 1\ndep psl.ipl 5\ndep psl.mode user\ndep psl.ipl 20\ndep psl.t 1\nex psl\n\
+        dep psl.ipl 0\ndep psl.previous user\ndep psl.mode user\ndep psl.n 0\nex psl\n";
+    let mut lines = MemLines::new(text);
+    let end = hold(
+        &mut lines,
+        false,
+        &setting,
+        &mut machine,
+        &mut a.file,
+        &mut sink,
+    );
+    assert!(rt; end == SessionEnd::Read);
+    assert!(rt;
+        sink.bytes(Chan::Report)
+            == b"OK\nOK\n?NO SUCH STATUS\n?NO SUCH STATUS\n?NO SUCH STATUS\n\
+            PSL 00050008 MODE KERNEL PREVIOUS KERNEL IPL 5 N\n\
+            OK\nOK\nOK\nOK\n\
+            PSL 03C00000 MODE USER PREVIOUS USER IPL 0\n"
                 .as_slice()
     );
     Ok(())

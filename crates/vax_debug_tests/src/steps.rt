@@ -2,7 +2,10 @@
 use std::alloc::Global;
 use std::process::Abort;
 use std::test::Fail;
-use vax_debug::{Breaks, deposit, evict, examine, frame_goal, go, go_to, over, step, until};
+use vax_debug::{
+    Breaks, Marks, Snapshot, Watch, Watches, deposit, evict, examine, frame_goal, go, go_to, look,
+    over, step, until,
+};
 use vax_machine::{Limits, Machine};
 use vax_outside::{MemPages, MemSink};
 use vax_sched::Schedule;
@@ -76,8 +79,13 @@ pub(crate) fn surroundings(alloc: Global) -> Result<Around, Fail> {
 /// Goes on up to a stop.
 fn goes<R: Abort>(rt: &R, breaks: &Breaks, machine: &mut Machine, a: &mut Around) {
     assert!(rt; a.limits.turns <= 1_000);
-    let end = go(
+    let seen = Snapshot::new();
+    let marks = Marks {
         breaks,
+        seen: &seen,
+    };
+    let end = go(
+        &marks,
         machine,
         &a.limits,
         &a.schedule,
@@ -92,7 +100,12 @@ fn a_step_is_one_instruction(rt: HostRuntime) -> Result<(), Fail> {
     let mut machine = machine(rt.alloc())?;
     let mut a = surroundings(rt.alloc())?;
     assert!(rt; a.limits.turns <= 1_000);
-    let none = Breaks::new();
+    let breaks = Breaks::new();
+    let seen = Snapshot::new();
+    let none = Marks {
+        breaks: &breaks,
+        seen: &seen,
+    };
     let end = step(
         2,
         &none,
@@ -114,7 +127,12 @@ fn a_call_is_stepped_over(rt: HostRuntime) -> Result<(), Fail> {
     let mut machine = machine(rt.alloc())?;
     let mut a = surroundings(rt.alloc())?;
     assert!(rt; a.limits.turns <= 1_000);
-    let none = Breaks::new();
+    let breaks = Breaks::new();
+    let seen = Snapshot::new();
+    let none = Marks {
+        breaks: &breaks,
+        seen: &seen,
+    };
     let end = over(
         &none,
         &mut machine,
@@ -162,7 +180,12 @@ fn an_address_is_reached(rt: HostRuntime) -> Result<(), Fail> {
     let mut machine = machine(rt.alloc())?;
     let mut a = surroundings(rt.alloc())?;
     assert!(rt; a.limits.turns <= 1_000);
-    let none = Breaks::new();
+    let breaks = Breaks::new();
+    let seen = Snapshot::new();
+    let none = Marks {
+        breaks: &breaks,
+        seen: &seen,
+    };
     let end = until(
         0x8000_0202,
         &none,
@@ -200,7 +223,12 @@ fn a_procedure_is_left(rt: HostRuntime) -> Result<(), Fail> {
     let mut machine = machine_with(rt.alloc(), &PROCEDURE)?;
     let mut a = surroundings(rt.alloc())?;
     assert!(rt; a.limits.turns <= 1_000);
-    let none = Breaks::new();
+    let breaks = Breaks::new();
+    let seen = Snapshot::new();
+    let none = Marks {
+        breaks: &breaks,
+        seen: &seen,
+    };
     let end = step(
         1,
         &none,
@@ -230,5 +258,39 @@ fn a_procedure_is_left(rt: HostRuntime) -> Result<(), Fail> {
     assert!(rt; end.is_ok());
     assert!(rt; machine.core().regs[15] == 0x8000_0204);
     assert!(rt; machine.steps() == 3);
+    Ok(())
+}
+
+#[test]
+fn a_change_is_seen(rt: HostRuntime) -> Result<(), Fail> {
+    // BSBB pushes its return address, which RSB takes off
+    let mut machine = machine_with(rt.alloc(), &CALLS)?;
+    let mut a = surroundings(rt.alloc())?;
+    assert!(rt; a.limits.turns <= 1_000);
+    let mut watches = Watches::new();
+    watches.add(Watch {
+        address: 0x8000_05FC,
+        count: 4,
+    });
+    let breaks = Breaks::new();
+    let found = look(&watches, &mut machine, &mut a.file);
+    assert!(rt; found.is_ok());
+    let Ok(seen) = found else {
+        return Ok(());
+    };
+    let marks = Marks {
+        breaks: &breaks,
+        seen: &seen,
+    };
+    let end = go(
+        &marks,
+        &mut machine,
+        &a.limits,
+        &a.schedule,
+        &mut a.file,
+        &mut a.sink,
+    );
+    assert!(rt; end.is_ok());
+    assert!(rt; machine.steps() == 1);
     Ok(())
 }

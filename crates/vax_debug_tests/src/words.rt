@@ -1,8 +1,8 @@
 //! Tests of the words of lines. Expected values are worked by hand.
 use std::test::Fail;
 use vax_debug_words::{
-    Base, COMMANDS, Command, Expression, Form, Line, Refusal, Request, Size, Value, is_meant,
-    read_line, usage,
+    Base, COMMANDS, Command, Expression, Field, Form, Line, Refusal, Request, Size, Value,
+    is_meant, read_line, usage,
 };
 
 /// Why a line isn't understood; none where it is.
@@ -54,6 +54,7 @@ fn takes_unique_beginnings(rt: HostRuntime) -> Result<(), Fail> {
         )
     );
     assert!(rt; matches!(read_line(b"di"), Line::Request(Request::Disassemble(None))));
+    assert!(rt; matches!(read_line(b"sa"), Line::Request(Request::Save)));
     assert!(rt; matches!(read_line(b"qui"), Line::Request(Request::Quit)));
     assert!(rt; matches!(read_line(b""), Line::Blank));
     assert!(rt; matches!(read_line(b"   "), Line::Blank));
@@ -65,10 +66,14 @@ fn tells_what_is_refused(rt: HostRuntime) -> Result<(), Fail> {
     assert!(rt; refused(b"s") == Some(Refusal::Several));
     assert!(rt; refused(b"st") == Some(Refusal::Several));
     assert!(rt; refused(b"e 200") == Some(Refusal::Several));
+    assert!(rt; refused(b"w") == Some(Refusal::Several));
+    assert!(rt; refused(b"watch 200 0") == Some(Refusal::Usage(Command::Watch)));
+    assert!(rt; refused(b"show steps") == Some(Refusal::Usage(Command::Show)));
     assert!(rt; refused(b"gone") == Some(Refusal::Unknown));
     assert!(rt; refused(b"dep psl") == Some(Refusal::Usage(Command::Deposit)));
     assert!(rt; refused(b"pages 1") == Some(Refusal::Usage(Command::Pages)));
     assert!(rt; refused(b"/b 200") == Some(Refusal::Unknown));
+    assert!(rt; refused(b"save state") == Some(Refusal::Usage(Command::Save)));
     assert!(rt; refused(b"go 1") == Some(Refusal::Usage(Command::Go)));
     assert!(rt; refused(b"go/b") == Some(Refusal::Usage(Command::Go)));
     assert!(rt; refused(b"step 0") == Some(Refusal::Usage(Command::Step)));
@@ -121,6 +126,12 @@ fn reads_places(rt: HostRuntime) -> Result<(), Fail> {
         matches!(&shown, Line::Request(Request::ExamineMemory(Form::Long, at))
         if at.count == 2 && is_held(&at.from, 12, 4))
     );
+    let watch = read_line(b"wa count+2");
+    assert!(rt;
+        matches!(&watch, Line::Request(Request::Watch(at))
+        if at.count == 4 && is_name(&at.from, b"COUNT", 0, 2))
+    );
+    assert!(rt; matches!(read_line(b"sh w"), Line::Request(Request::ShowWatches)));
     let stop = read_line(b"break fact");
     assert!(rt; matches!(&stop, Line::Request(Request::Break(at)) if is_name(at, b"FACT", 0, 0)));
     Ok(())
@@ -132,6 +143,16 @@ fn reads_values(rt: HostRuntime) -> Result<(), Fail> {
     assert!(rt;
         matches!(&put, Line::Request(Request::DepositRegister { register: 3, value })
         if is_held(value, 14, 0))
+    );
+    let put = read_line(b"dep psl.mode user");
+    assert!(rt;
+        matches!(&put, Line::Request(Request::DepositField(Field::Mode, value))
+        if is_name(value, b"3", 0, 0))
+    );
+    let put = read_line(b"dep/l psl.n 1");
+    assert!(rt;
+        matches!(&put, Line::Request(Request::DepositMemory { to, .. })
+        if is_name(to, b"PSL.N", 0, 0))
     );
     let put = read_line(b"dep/w 200 ffff");
     assert!(rt;
@@ -171,8 +192,8 @@ fn count_of(text: &[u8]) -> usize {
 
 #[test]
 fn tells_what_would_be_understood(rt: HostRuntime) -> Result<(), Fail> {
-    assert!(rt; count_of(b"frob") == 19);
-    assert!(rt; count_of(b"s") == 3);
+    assert!(rt; count_of(b"frob") == 21);
+    assert!(rt; count_of(b"s") == 4);
     assert!(rt; count_of(b"st") == 2);
     assert!(rt; count_of(b"go 1") == 1);
     assert!(rt; count_of(&[b' '; 1_025]) == 0);

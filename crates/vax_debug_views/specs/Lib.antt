@@ -1,3 +1,4 @@
 pub mod Showing
 pub mod Views
 pub mod Pages
+pub mod Watches

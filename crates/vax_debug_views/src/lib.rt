@@ -12,6 +12,7 @@ mod queues;
 mod registers;
 mod replying;
 mod values;
+mod watches;
 
 pub use crate::frames::show_frames;
 pub use crate::instructions::{disassemble, disassemble_here};
@@ -20,3 +21,4 @@ pub use crate::pages::show_pages;
 pub use crate::queues::show_queue;
 pub use crate::registers::{show_register, show_status};
 pub use crate::replying::{reply, reply_nowhere, show_breaks, show_help, show_refusal};
+pub use crate::watches::show_watches;

@@ -28,6 +28,7 @@ name_of command.Out = codes "OUT"
 name_of command.Go = codes "GO"
 name_of command.Until = codes "UNTIL"
 name_of command.Break = codes "BREAK"
+name_of command.Watch = codes "WATCH"
 name_of command.Clear = codes "CLEAR"
 name_of command.Show = codes "SHOW"
 name_of command.Where = codes "WHERE"
@@ -36,14 +37,15 @@ name_of command.Queue = codes "QUEUE"
 name_of command.Pages = codes "PAGES"
 name_of command.Turn = codes "TURN"
 name_of command.Evict = codes "EVICT"
+name_of command.Save = codes "SAVE"
 name_of command.Help = codes "HELP"
 name_of command.Quit = codes "QUIT"
 
 unfoldable pub commands : List Command
 commands =
     command.Examine ∷ command.Deposit ∷ command.Disassemble ∷ command.Step ∷ command.Over ∷ command.Out
-    ∷ command.Go ∷ command.Until ∷ command.Break ∷ command.Clear ∷ command.Show
-    ∷ command.Where ∷ command.Stack ∷ command.Queue ∷ command.Pages ∷ command.Turn ∷ command.Evict ∷ command.Help ∷ command.Quit ∷ []
+    ∷ command.Go ∷ command.Until ∷ command.Break ∷ command.Watch ∷ command.Clear ∷ command.Show
+    ∷ command.Where ∷ command.Stack ∷ command.Queue ∷ command.Pages ∷ command.Turn ∷ command.Evict ∷ command.Save ∷ command.Help ∷ command.Quit ∷ []
 
 -- the commands whose names a word begins
 abbrev pub candidates : Text → List Command
@@ -71,7 +73,7 @@ form_of word =
 -- how each is used
 unfoldable pub usage_of : Command → Text
 usage_of command.Examine = codes "EXAMINE[/FORM] x [n]     shows a register, PSL or n values in memory"
-usage_of command.Deposit = codes "DEPOSIT[/FORM] x v       puts a value into a register, PSL or memory"
+usage_of command.Deposit = codes "DEPOSIT[/FORM] x v       puts a value into a register, PSL, PSL.FIELD or memory"
 usage_of command.Disassemble = codes "DISASSEMBLE [x [n]]      shows n instructions from x or PC on"
 usage_of command.Step = codes "STEP [n]                 makes n steps"
 usage_of command.Over = codes "OVER                     makes a step, or all of those of a call"
@@ -79,13 +81,15 @@ usage_of command.Out = codes "OUT                      goes on to behind the pro
 usage_of command.Go = codes "GO                       goes on up to a stop"
 usage_of command.Until = codes "UNTIL x                  goes on up to an address"
 usage_of command.Break = codes "BREAK x                  stops before each step at an address"
-usage_of command.Clear = codes "CLEAR [x]                takes one stop away, or all"
-usage_of command.Show = codes "SHOW BREAKS              tells where to stop"
+usage_of command.Watch = codes "WATCH x [n]              stops behind each step that changes n bytes"
+usage_of command.Clear = codes "CLEAR [x]                takes the stops at an address away, or all"
+usage_of command.Show = codes "SHOW BREAKS or WATCHES   tells where to stop, or what is watched"
 usage_of command.Where = codes "WHERE                    shows the frames of calls"
 usage_of command.Stack = codes "STACK [n]                shows n longwords of the stack"
 usage_of command.Queue = codes "QUEUE x                  follows a queue"
 usage_of command.Pages = codes "PAGES                    shows which pages are resident, kept and modified"
 usage_of command.Turn = codes "TURN                     makes one attempt at a step"
 usage_of command.Evict = codes "EVICT x, EVICT ALL       makes a page absent, or all pages"
+usage_of command.Save = codes "SAVE                     puts the state into the record, and ends"
 usage_of command.Help = codes "HELP [word]              tells how commands are used"
 usage_of command.Quit = codes "QUIT                     ends"

@@ -14,6 +14,8 @@ use Rattle.vax_debug_words.specs.declared.command.Form.TheVariants as form
 use Rattle.vax_debug_words.specs.declared.command.Meaning.{Meaning}
 use Rattle.vax_debug_words.specs.declared.command.Meaning.TheVariants.{Unknown, Only, Several}
 use Rattle.vax_debug_words.specs.declared.request.Expression.{Expression}
+use Rattle.vax_debug_words.specs.declared.request.Field.{Field}
+use Rattle.vax_debug_words.specs.declared.request.Field.TheVariants as field
 use Rattle.vax_debug_words.specs.declared.request.Span.{Span}
 use Rattle.vax_debug_words.specs.declared.request.Size.TheVariants as size
 use Rattle.vax_debug_words.specs.declared.request.Value.{Value}
@@ -106,13 +108,50 @@ abbrev pub memory_put : Option Expression → Option Value → Option Request
 memory_put None value = None
 memory_put (Some to) value = option_map (request.DepositMemory to) value
 
+-- the fields of the status, as EXAMINE PSL names them
+unfoldable pub field_of : Text → Option Field
+field_of w =
+    if is_called (codes "PSL.MODE") w then Some field.Mode
+    else if is_called (codes "PSL.PREVIOUS") w then Some field.Previous
+    else if is_called (codes "PSL.IPL") w then Some field.Priority
+    else if is_called (codes "PSL.IS") w then Some field.InterruptStack
+    else if is_called (codes "PSL.FPD") w then Some field.FirstPartDone
+    else if is_called (codes "PSL.TP") w then Some field.TracePending
+    else if is_called (codes "PSL.DV") w then Some field.DecimalOverflow
+    else if is_called (codes "PSL.FU") w then Some field.FloatingUnderflow
+    else if is_called (codes "PSL.IV") w then Some field.IntegerOverflow
+    else if is_called (codes "PSL.T") w then Some field.Trace
+    else if is_called (codes "PSL.N") w then Some field.Negative
+    else if is_called (codes "PSL.Z") w then Some field.Zero
+    else if is_called (codes "PSL.V") w then Some field.Overflow
+    else if is_called (codes "PSL.C") w then Some field.Carry
+    else None
+
+-- the number of an access mode, where it is called by its name
+unfoldable pub mode_number : Text → Text
+mode_number w =
+    if is_called (codes "KERNEL") w then codes "0"
+    else if is_called (codes "EXECUTIVE") w then codes "1"
+    else if is_called (codes "SUPERVISOR") w then codes "2"
+    else if is_called (codes "USER") w then codes "3"
+    else w
+
+abbrev pub spelled : Field → Text → Text
+spelled field.Mode w = mode_number w
+spelled field.Previous w = mode_number w
+spelled f w = w
+
+abbrev pub field_put : Option Field → Text → Text → Option Request
+field_put (Some f) what given = option_map (request.DepositField f) (expression (spelled f given))
+field_put None what given = memory_put (expression what) (value_of form.Long given)
+
 abbrev pub put_by : Option ℕ → Text → Text → Option Request
 put_by (Some n) what given = option_map (request.DepositRegister n) (expression given)
 put_by None what given =
     if is_called (codes "PSL") what then option_map request.DepositStatus (expression given)
-    else memory_put (expression what) (value_of form.Long given)
+    else field_put (field_of what) what given
 
--- into a register, the status or memory
+-- into a register, the status, one of its fields, or memory
 abbrev pub put_at : Option Form → Text → Text → Option Request
 put_at None what given = put_by (register what) what given
 put_at (Some f) what given = memory_put (expression what) (value_of f given)
@@ -137,10 +176,19 @@ unfoldable pub cleared : List Text → Option Request
 cleared [] = Some (request.Clear None)
 cleared operands = option_map (λ at. request.Clear (Some at)) (one_expression operands)
 
--- `SHOW BREAKS`, or `SHOW`
+-- longwords, where it isn't said
+abbrev pub watched : List Text → Option Request
+watched operands = option_map request.Watch (spanned 4 operands)
+
+abbrev pub shown_of : Text → Option Request
+shown_of what =
+    if begins (codes "BREAKS") what then Some request.Show
+    else if begins (codes "WATCHES") what then Some request.ShowWatches else None
+
+-- `SHOW BREAKS`, or `SHOW`; `SHOW WATCHES`
 unfoldable pub shown : List Text → Option Request
 shown [] = Some request.Show
-shown (what ∷ []) = if begins (codes "BREAKS") what then Some request.Show else None
+shown (what ∷ []) = shown_of what
 shown operands = None
 
 -- eight longwords, where it isn't said
@@ -180,6 +228,7 @@ asked_plainly command.Out operands = alone request.Out operands
 asked_plainly command.Go operands = alone request.Go operands
 asked_plainly command.Until operands = option_map request.Until (one_expression operands)
 asked_plainly command.Break operands = option_map request.Break (one_expression operands)
+asked_plainly command.Watch operands = watched operands
 asked_plainly command.Clear operands = cleared operands
 asked_plainly command.Show operands = shown operands
 asked_plainly command.Where operands = alone request.Where operands
@@ -188,6 +237,7 @@ asked_plainly command.Queue operands = option_map request.Queue (one_expression 
 asked_plainly command.Pages operands = alone request.Pages operands
 asked_plainly command.Turn operands = alone request.Turn operands
 asked_plainly command.Evict operands = evicted operands
+asked_plainly command.Save operands = alone request.Save operands
 asked_plainly command.Help operands = helped operands
 asked_plainly command.Quit operands = alone request.Quit operands
 
@@ -273,6 +323,7 @@ IsProper request.ExamineStatus = Unit {0}
 IsProper (request.ExamineMemory f at) = IsSpan at
 IsProper (request.DepositRegister n e) = (n < 16) × IsExpression e
 IsProper (request.DepositStatus e) = IsExpression e
+IsProper (request.DepositField f e) = IsExpression e
 IsProper (request.DepositMemory e v) = IsExpression e × IsValue v
 IsProper (request.Disassemble at) = IfSome at IsSpan
 IsProper (request.Step n) = (1 ≤ n) × (n ≤ 10 ^ 15)
@@ -281,8 +332,10 @@ IsProper request.Out = Unit {0}
 IsProper request.Go = Unit {0}
 IsProper (request.Until e) = IsExpression e
 IsProper (request.Break e) = IsExpression e
+IsProper (request.Watch at) = IsSpan at
 IsProper (request.Clear e) = IfSome e IsExpression
 IsProper request.Show = Unit {0}
+IsProper request.ShowWatches = Unit {0}
 IsProper request.Where = Unit {0}
 IsProper (request.Stack n) = IsCount n
 IsProper (request.Queue e) = IsExpression e
@@ -290,6 +343,7 @@ IsProper request.Pages = Unit {0}
 IsProper request.Turn = Unit {0}
 IsProper (request.Evict e) = IsExpression e
 IsProper request.EvictAll = Unit {0}
+IsProper request.Save = Unit {0}
 IsProper (request.Help c) = Unit {0}
 IsProper request.Quit = Unit {0}
 

@@ -16,6 +16,7 @@ pub enum Command {
     Go,
     Until,
     Break,
+    Watch,
     Clear,
     Show,
     Where,
@@ -24,12 +25,13 @@ pub enum Command {
     Pages,
     Turn,
     Evict,
+    Save,
     Help,
     Quit,
 }
 
 /// All commands.
-pub const COMMANDS: [Command; 19] = [
+pub const COMMANDS: [Command; 21] = [
     Command::Examine,
     Command::Deposit,
     Command::Disassemble,
@@ -39,6 +41,7 @@ pub const COMMANDS: [Command; 19] = [
     Command::Go,
     Command::Until,
     Command::Break,
+    Command::Watch,
     Command::Clear,
     Command::Show,
     Command::Where,
@@ -47,6 +50,7 @@ pub const COMMANDS: [Command; 19] = [
     Command::Pages,
     Command::Turn,
     Command::Evict,
+    Command::Save,
     Command::Help,
     Command::Quit,
 ];
@@ -92,6 +96,7 @@ fn name(command: Command) -> &'static [u8]
         Command::Go => b"GO",
         Command::Until => b"UNTIL",
         Command::Break => b"BREAK",
+        Command::Watch => b"WATCH",
         Command::Clear => b"CLEAR",
         Command::Show => b"SHOW",
         Command::Where => b"WHERE",
@@ -100,6 +105,7 @@ fn name(command: Command) -> &'static [u8]
         Command::Pages => b"PAGES",
         Command::Turn => b"TURN",
         Command::Evict => b"EVICT",
+        Command::Save => b"SAVE",
         Command::Help => b"HELP",
         Command::Quit => b"QUIT",
     }
@@ -197,7 +203,8 @@ pub fn usage(command: Command) -> &'static [u8]
 {
     match command {
         Command::Examine => b"EXAMINE[/FORM] x [n]     shows a register, PSL or n values in memory",
-        Command::Deposit => b"DEPOSIT[/FORM] x v       puts a value into a register, PSL or memory",
+        Command::Deposit =>
+            b"DEPOSIT[/FORM] x v       puts a value into a register, PSL, PSL.FIELD or memory",
         Command::Disassemble => b"DISASSEMBLE [x [n]]      shows n instructions from x or PC on",
         Command::Step => b"STEP [n]                 makes n steps",
         Command::Over => b"OVER                     makes a step, or all of those of a call",
@@ -205,8 +212,9 @@ pub fn usage(command: Command) -> &'static [u8]
         Command::Go => b"GO                       goes on up to a stop",
         Command::Until => b"UNTIL x                  goes on up to an address",
         Command::Break => b"BREAK x                  stops before each step at an address",
-        Command::Clear => b"CLEAR [x]                takes one stop away, or all",
-        Command::Show => b"SHOW BREAKS              tells where to stop",
+        Command::Watch => b"WATCH x [n]              stops behind each step that changes n bytes",
+        Command::Clear => b"CLEAR [x]                takes the stops at an address away, or all",
+        Command::Show => b"SHOW BREAKS or WATCHES   tells where to stop, or what is watched",
         Command::Where => b"WHERE                    shows the frames of calls",
         Command::Stack => b"STACK [n]                shows n longwords of the stack",
         Command::Queue => b"QUEUE x                  follows a queue",
@@ -214,6 +222,7 @@ pub fn usage(command: Command) -> &'static [u8]
             b"PAGES                    shows which pages are resident, kept and modified",
         Command::Turn => b"TURN                     makes one attempt at a step",
         Command::Evict => b"EVICT x, EVICT ALL       makes a page absent, or all pages",
+        Command::Save => b"SAVE                     puts the state into the record, and ends",
         Command::Help => b"HELP [word]              tells how commands are used",
         Command::Quit => b"QUIT                     ends",
     }

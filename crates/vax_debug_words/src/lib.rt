@@ -15,5 +15,5 @@ pub use crate::command::{COMMANDS, Command, Form, usage};
 pub use crate::expression::longword;
 pub use crate::read::{is_meant, read_line};
 pub use crate::request::{
-    Base, Characters, Expression, Line, Name, Refusal, Request, Size, Span, Value,
+    Base, Characters, Expression, Field, Line, Name, Refusal, Request, Size, Span, Value,
 };

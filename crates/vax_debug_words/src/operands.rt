@@ -5,11 +5,11 @@ ghost use Rattle.vax_debug_words.specs.Expressions.{IsExpression, expression};
 ghost use Rattle.vax_debug_words.specs.Commands.{meaning};
 ghost use Rattle.vax_debug_words.specs.declared.request.Request.TheVariants as request;
 ghost use Rattle.vax_debug_words.specs.declared.request.Value.TheVariants as value;
-ghost use Rattle.vax_debug_words.specs.Requests.{IsCount, IsProper, IsSpan, IsValue, alone, characters, cleared, count, count_or, deposited, disassembled, evicted, evicted_at, examined, form_or_long, help_on, helped, memory_put, memory_shown, one_expression, one_shown, put_at, quadword, shown, shown_at, span, spanned, stacked, stepped, value_of};
+ghost use Rattle.vax_debug_words.specs.Requests.{IsCount, IsProper, IsSpan, IsValue, alone, characters, cleared, count, count_or, deposited, disassembled, evicted, evicted_at, examined, field_of, field_put, form_or_long, help_on, helped, memory_put, memory_shown, mode_number, one_expression, one_shown, put_at, quadword, shown, shown_at, shown_of, span, spanned, spelled, stacked, stepped, value_of, watched};
 
 use crate::command::{Form, Meaning, begins, is_called, meaning_of};
 use crate::expression::{expression, longword, register};
-use crate::request::{Characters, Expression, Request, Size, Span, Value};
+use crate::request::{Characters, Expression, Field, Request, Size, Span, Value};
 use vax_lines::{next_word, number};
 
 /// The most values, longwords, bytes or instructions of one line.
@@ -20,6 +20,9 @@ const MOST_STEPS: u64 = 1_000_000_000_000_000;
 
 /// How many instructions are shown where a line doesn't say.
 const INSTRUCTIONS: u8 = 10;
+
+/// How many bytes are watched where a line doesn't say.
+const WATCHED: u8 = 4;
 
 /// How many longwords of the stack are shown where a line doesn't say.
 const LONGWORDS: u8 = 8;
@@ -234,7 +237,88 @@ fn status_put(given: &[u8]) -> Option<Request>
     expression(given).map(Request::DepositStatus)
 }
 
-/// Into a register, the status or a longword.
+/// The field of the status that a word names.
+#[tactic(auto, unfolding(crate::specs::Requests::field_of))]
+fn field_of(word: &[u8]) -> Option<Field>
+    ensures { result ≡ field_of word.now }
+{
+    if is_called(word, b"PSL.MODE") {
+        Some(Field::Mode)
+    } else if is_called(word, b"PSL.PREVIOUS") {
+        Some(Field::Previous)
+    } else if is_called(word, b"PSL.IPL") {
+        Some(Field::Priority)
+    } else if is_called(word, b"PSL.IS") {
+        Some(Field::InterruptStack)
+    } else if is_called(word, b"PSL.FPD") {
+        Some(Field::FirstPartDone)
+    } else if is_called(word, b"PSL.TP") {
+        Some(Field::TracePending)
+    } else if is_called(word, b"PSL.DV") {
+        Some(Field::DecimalOverflow)
+    } else if is_called(word, b"PSL.FU") {
+        Some(Field::FloatingUnderflow)
+    } else if is_called(word, b"PSL.IV") {
+        Some(Field::IntegerOverflow)
+    } else if is_called(word, b"PSL.T") {
+        Some(Field::Trace)
+    } else if is_called(word, b"PSL.N") {
+        Some(Field::Negative)
+    } else if is_called(word, b"PSL.Z") {
+        Some(Field::Zero)
+    } else if is_called(word, b"PSL.V") {
+        Some(Field::Overflow)
+    } else if is_called(word, b"PSL.C") {
+        Some(Field::Carry)
+    } else {
+        None
+    }
+}
+
+/// The number of an access mode, where it is called by its name.
+#[tactic(auto, unfolding(crate::specs::Requests::mode_number))]
+fn mode_number(word: &[u8]) -> &[u8]
+    ensures { result.now ≡ mode_number word.entry.now }
+{
+    if is_called(word, b"KERNEL") {
+        b"0"
+    } else if is_called(word, b"EXECUTIVE") {
+        b"1"
+    } else if is_called(word, b"SUPERVISOR") {
+        b"2"
+    } else if is_called(word, b"USER") {
+        b"3"
+    } else {
+        word
+    }
+}
+
+/// The number that a field's value is, where it may have a name.
+fn spelled(field: Field, word: &[u8]) -> &[u8]
+    ensures { result.now ≡ spelled field word.entry.now }
+{
+    match field {
+        Field::Mode => mode_number(word),
+        Field::Previous => mode_number(word),
+        _ => word,
+    }
+}
+
+/// Into a field of the status, or a longword.
+#[tactic(auto, unfolding(crate::specs::Requests::IsProper))]
+fn field_put(what: &[u8], given: &[u8]) -> Option<Request>
+    ensures request { result ≡ field_put (field_of what.now) what.now given.now }
+    ensures proper { IfSome result IsProper }
+{
+    match field_of(what) {
+        Some(field) => {
+            expression(spelled(field, given)).map(|value| Request::DepositField(field, value))
+        }
+        None => memory_put(Form::Long, what, given),
+    }
+}
+
+/// Into a register, the status, one of its fields, or a longword.
 #[tactic(auto, unfolding(crate::specs::Requests::IsProper))]
 fn put_plainly(what: &[u8], given: &[u8]) -> Option<Request>
     ensures request { result ≡ put_at None what.now given.now }
@@ -243,7 +327,7 @@ fn put_plainly(what: &[u8], given: &[u8]) -> Option<Request>
     match register(what) {
         Some(n) => register_put(n, given),
         None if is_called(what, b"PSL") => status_put(given),
-        None => memory_put(Form::Long, what, given),
+        None => field_put(what, given),
     }
 }
 
@@ -311,6 +395,30 @@ pub(crate) fn cleared(operands: &[u8]) -> Option<Request>
     }
 }
 
+/// What a `WATCH` with these operands asks for.
+#[tactic(auto, unfolding(crate::specs::Requests::IsProper))]
+pub(crate) fn watched(operands: &[u8]) -> Option<Request>
+    ensures request { result ≡ watched (words operands.now) }
+    ensures proper { IfSome result IsProper }
+{
+    spanned(WATCHED, operands).map(Request::Watch)
+}
+
+/// The stops, or what is watched.
+#[tactic(auto, unfolding(crate::specs::Requests::IsProper))]
+fn shown_of(what: &[u8]) -> Option<Request>
+    ensures request { result ≡ shown_of what.now }
+    ensures proper { IfSome result IsProper }
+{
+    if begins(what, b"BREAKS") {
+        Some(Request::Show)
+    } else if begins(what, b"WATCHES") {
+        Some(Request::ShowWatches)
+    } else {
+        None
+    }
+}
+
 /// What a `SHOW` with these operands asks for.
 #[tactic(auto, unfolding(crate::specs::Requests::shown, crate::specs::Requests::IsProper))]
 pub(crate) fn shown(operands: &[u8]) -> Option<Request>
@@ -320,8 +428,8 @@ pub(crate) fn shown(operands: &[u8]) -> Option<Request>
     match next_word(operands) {
         None => Some(Request::Show),
         Some((what, rest)) => match next_word(rest) {
-            None if begins(what, b"BREAKS") => Some(Request::Show),
-            _ => None,
+            None => shown_of(what),
+            Some(_) => None,
         },
     }
 }

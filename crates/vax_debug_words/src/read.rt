@@ -6,7 +6,7 @@ ghost use Rattle.vax_debug_words.specs.Requests.{IsProper, IsProperLine, asked, 
 use crate::command::{Command, Form, Meaning, form_of, is_same, may_mean, meaning_of};
 use crate::operands::{
     alone, broken, cleared, deposited, disassembled, evicted, examined, helped, queued, shown,
-    stacked, stepped, until,
+    stacked, stepped, until, watched,
 };
 use crate::request::{Line, Refusal, Request};
 use vax_lines::next_word;
@@ -29,6 +29,7 @@ fn asked_plainly(command: Command, operands: &[u8]) -> Option<Request>
         Command::Go => alone(Request::Go, operands),
         Command::Until => until(operands),
         Command::Break => broken(operands),
+        Command::Watch => watched(operands),
         Command::Clear => cleared(operands),
         Command::Show => shown(operands),
         Command::Where => alone(Request::Where, operands),
@@ -37,6 +38,7 @@ fn asked_plainly(command: Command, operands: &[u8]) -> Option<Request>
         Command::Pages => alone(Request::Pages, operands),
         Command::Turn => alone(Request::Turn, operands),
         Command::Evict => evicted(operands),
+        Command::Save => alone(Request::Save, operands),
         Command::Help => helped(operands),
         Command::Quit => alone(Request::Quit, operands),
     }

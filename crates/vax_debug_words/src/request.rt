@@ -122,6 +122,39 @@ pub enum Value {
     Text(Characters),
 }
 
+/// A field of the processor status longword.
+#[derive(Clone, Copy, PartialEq, Eq)]
+pub enum Field {
+    /// The current access mode.
+    Mode,
+    /// The previous access mode.
+    Previous,
+    /// The interrupt priority level.
+    Priority,
+    /// Whether the interrupt stack is in use.
+    InterruptStack,
+    /// Whether the first part of an instruction is done.
+    FirstPartDone,
+    /// Whether a trace is pending.
+    TracePending,
+    /// Whether a decimal overflow traps.
+    DecimalOverflow,
+    /// Whether a floating underflow is a fault.
+    FloatingUnderflow,
+    /// Whether an integer overflow traps.
+    IntegerOverflow,
+    /// Whether instructions are traced.
+    Trace,
+    /// The condition code N.
+    Negative,
+    /// The condition code Z.
+    Zero,
+    /// The condition code V.
+    Overflow,
+    /// The condition code C.
+    Carry,
+}
+
 /// What a debugger is asked for.
 #[derive(Drop)]
 pub enum Request {
@@ -135,6 +168,8 @@ pub enum Request {
     DepositRegister { register: u8, value: Expression },
     /// Another value of the processor status longword.
     DepositStatus(Expression),
+    /// Another value of one of its fields.
+    DepositField(Field, Expression),
     /// Another value in memory.
     DepositMemory { to: Expression, value: Value },
     /// So many instructions, or ten from PC on.
@@ -151,10 +186,14 @@ pub enum Request {
     Until(Expression),
     /// A stop before each step at an address.
     Break(Expression),
+    /// A stop behind each step that changes one of these bytes.
+    Watch(Span),
     /// No stop any more at an address, or none at all.
     Clear(Option<Expression>),
     /// The stops.
     Show,
+    /// What is watched.
+    ShowWatches,
     /// The frames of calls.
     Where,
     /// So many longwords of the stack, 1 to 64.
@@ -169,6 +208,8 @@ pub enum Request {
     Evict(Expression),
     /// All pages made absent.
     EvictAll,
+    /// The end, with the state in the record.
+    Save,
     /// What may be asked for, or how one command is used.
     Help(Option<Command>),
     /// The end.

@@ -60,3 +60,13 @@ has_argument_forms Vms = true
 abbrev pub has_arguments_by_value : Dialect → Bool
 has_arguments_by_value Vax = false
 has_arguments_by_value Vms = true
+
+-- `.ASCID` is there, whose operands are pieces of text (".ASCID").
+abbrev pub has_text_descriptors : Dialect → Bool
+has_text_descriptors Vax = false
+has_text_descriptors Vms = true
+
+-- `^M` stands before one register without brackets too ("Register mask operator").
+abbrev pub has_single_masks : Dialect → Bool
+has_single_masks Vax = false
+has_single_masks Vms = true

@@ -14,7 +14,7 @@ pub enum Dialect {
 }
 
 impl Dialect {
-    ghost use Rattle.vax_dialect.specs.Differences.{assigns_places, has_argument_forms, has_arguments_by_value, has_empty_items, has_further_directives, has_longword_values, has_macro_directives, has_negative_repeats, has_places_in_operands, has_string_operators, has_unnamed_psect};
+    ghost use Rattle.vax_dialect.specs.Differences.{assigns_places, has_argument_forms, has_arguments_by_value, has_empty_items, has_further_directives, has_longword_values, has_macro_directives, has_negative_repeats, has_places_in_operands, has_single_masks, has_string_operators, has_text_descriptors, has_unnamed_psect};
 
     /// Whether directives are there beside those that both dialects have.
     pub fn has_further_directives(self) -> bool
@@ -119,6 +119,26 @@ impl Dialect {
     /// Whether `.MEXIT`, `.NARG`, `.NCHR` and `.MDELETE` are there.
     pub fn has_macro_directives(self) -> bool
         ensures { result ≡ has_macro_directives self }
+    {
+        match self {
+            Dialect::Vax => false,
+            Dialect::Vms => true,
+        }
+    }
+
+    /// Whether `.ASCID` is there, whose operands are pieces of text.
+    pub fn has_text_descriptors(self) -> bool
+        ensures { result ≡ has_text_descriptors self }
+    {
+        match self {
+            Dialect::Vax => false,
+            Dialect::Vms => true,
+        }
+    }
+
+    /// Whether `^M` may stand before one register without brackets.
+    pub fn has_single_masks(self) -> bool
+        ensures { result ≡ has_single_masks self }
     {
         match self {
             Dialect::Vax => false,

@@ -3,7 +3,8 @@ use std::alloc::Global;
 use std::test::Fail;
 use vax_asm::{AsmError, assemble};
 use vax_dialect::Dialect;
-use vax_module::Module;
+use vax_lex::Value;
+use vax_module::{Module, Reloc, RelocKind};
 
 /// The bytes of the section without a name.
 fn bytes_of(module: &Module) -> &[u8] {
@@ -24,7 +25,7 @@ fn fault_of(alloc: Global, dialect: Dialect, source: &str) -> (u32, u8) {
 #[test]
 fn gives_what_one_dialect_has(rt: HostRuntime) -> Result<(), Fail> {
     let alloc = rt.alloc();
-    let rows: [(&str, &[u8], (u32, u8)); 25] = [
+    let rows: [(&str, &[u8], (u32, u8)); 48] = [
         (
             "MOVL #^C<^XFFFF0000>,R0\n",
             b"\xD0\x8F\xFF\xFF\0\0\x50",
@@ -79,6 +80,80 @@ fn gives_what_one_dialect_has(rt: HostRuntime) -> Result<(), Fail> {
             (2, 2),
         ),
         (
+            ".BYTE 1\n.SAVE_PSECT\n.PSECT A\n.BYTE 2\n.RESTORE_PSECT\n.BYTE 3\n",
+            b"\x01\x03",
+            (2, 2),
+        ),
+        (
+            ".SAVE\n.PSECT A\n.SAVE\n.PSECT B\n.RESTORE\n.BYTE 1\n.RESTORE\n.BYTE 2\n",
+            b"\x02",
+            (1, 2),
+        ),
+        (
+            "1$: NOP\n.SAVE_PSECT LOCAL_BLOCK\n.PSECT A\n1$: NOP\n.restore\n.BYTE 1$-.\n",
+            b"\x01\xFF",
+            (2, 2),
+        ),
+        // The block that is put aside goes on up to the next label or section, and once more where it is taken back.
+        (
+            "BRB 2$\n.SAVE local_block\n1$: NOP\n.PSECT A\nB: NOP\n.RESTORE\n2$: .BYTE 1$-.\n",
+            b"\x11\x01\x01\xFF",
+            (2, 2),
+        ),
+        (
+            ".ENABL LSB\n1$: NOP\n.SAVE\n.PSECT A\n.RESTORE\n.BYTE 1$-.\n",
+            b"\x01\xFF",
+            (1, 2),
+        ),
+        (
+            ".ENABLE ABSOLUTE\nMOVL ^X1234,R0\n",
+            b"\xD0\x9F\x34\x12\0\0\x50",
+            (1, 2),
+        ),
+        (
+            ".ENABL AMA\nTSTL X[R1]\nX=^X10\n",
+            b"\xD5\x41\x9F\x10\0\0\0",
+            (1, 2),
+        ),
+        // Where a size or `@` is written, and at branches, it stays relative.
+        (
+            ".ENABL AMA\nA: TSTL B^A\nTSTL @A\nBRB A\n",
+            b"\xD5\xAF\xFD\xD5\xBF\xFA\x11\xF8",
+            (1, 2),
+        ),
+        (
+            "A: .ENABL AMA\n.DSABL AMA\nTSTL A\n",
+            b"\xD5\xAF\xFD",
+            (1, 2),
+        ),
+        (
+            ".DEFAULT DISPLACEMENT,WORD\nTSTL A\nA: NOP\n",
+            b"\xD5\xCF\0\0\x01",
+            (1, 2),
+        ),
+        (
+            ".default displacement,byte\nTSTL @A\nA: NOP\n",
+            b"\xD5\xBF\0\x01",
+            (1, 2),
+        ),
+        (
+            ".DEFAULT DISPLACEMENT,BYTE\n.DEFAULT DISPLACEMENT,LONG\nTSTL A\nA: NOP\n",
+            b"\xD5\xEF\0\0\0\0\x01",
+            (1, 2),
+        ),
+        // A known place takes the shortest, a written size goes before, and a displacement from a register has its own rule.
+        (
+            ".DEFAULT DISPLACEMENT,LONG\nA: TSTL A\nTSTL W^A\n",
+            b"\xD5\xAF\xFD\xD5\xCF\xF9\xFF",
+            (1, 2),
+        ),
+        (
+            ".DEFAULT DISPLACEMENT,BYTE\nTSTL X(R1)\nX=5\n",
+            b"\xD5\xC1\x05\0",
+            (1, 2),
+        ),
+        (".REPT 31\n.SAVE\n.ENDR\n.BYTE 1\n", b"\x01", (1, 2)),
+        (
             ".REF1 #5\n.REF2 (R1)+\n.REF4 (R2)\n.REF4 #X\nX=7\n.REF1 R3\n",
             b"\x05\x81\x62\x8F\x07\0\0\0\x53",
             (1, 2),
@@ -96,6 +171,34 @@ fn gives_what_one_dialect_has(rt: HostRuntime) -> Result<(), Fail> {
         (
             ".CROSS A\n.NOCROSS\n.DEBUG A\n.LIBRARY 'A;B'\n.MCALL $A,$B\n.LINK \"A\"/B\n.PRINT 1 ;C\n.WARN\n.BYTE 3\n",
             b"\x03",
+            (1, 2),
+        ),
+        (
+            ".BLKO\n.BYTE 1\n",
+            b"\0\0\0\0\0\0\0\0\0\0\0\0\0\0\0\0\x01",
+            (1, 2),
+        ),
+        (".BLKH 0\n.BYTE 1\n", b"\x01", (1, 2)),
+        (
+            ".OCTA X,\nX=5\n",
+            b"\x05\0\0\0\0\0\0\0\0\0\0\0\0\0\0\0\0\0\0\0\0\0\0\0\0\0\0\0\0\0\0\0",
+            (1, 2),
+        ),
+        (
+            ".octa -2[1]\n.BYTE 1\n",
+            b"\xFE\xFF\xFF\xFF\xFF\xFF\xFF\xFF\xFF\xFF\xFF\xFF\xFF\xFF\xFF\xFF\x01",
+            (1, 2),
+        ),
+        (
+            ".WORD ^MR2,^M SP,^MR0!^M<R3>\n",
+            b"\x04\0\0\x40\x09\0",
+            (1, 4),
+        ),
+        (".WORD ^MR2+X\nX=1\n", b"\x05\0", (1, 4)),
+        (".ASCID /ab/\n", b"\x02\0\x0E\x01\0\0\0\0ab", (1, 2)),
+        (
+            "A: .ascid 'a;b' <13> ; c\n.BYTE .-A\n",
+            b"\x04\0\x0E\x01\0\0\0\0a;b\x0D\x0C",
             (1, 2),
         ),
     ];
@@ -163,7 +266,18 @@ fn tells_the_faults_of_the_larger_dialect(rt: HostRuntime) {
         (". == .+1\n", (1, 2)),
         (". = .+1048577\n", (1, 11)),
         (".PSECT ,LONG\n", (1, 4)),
-        (".BLKO 1\n", (1, 2)),
+        (".BLKO 1,2\n", (1, 3)),
+        (".OCTA\n", (1, 3)),
+        (".OCTA 18446744073709551616\n", (1, 7)),
+        ("A: .OCTA A\n", (1, 4)),
+        (".WORD ^MX\nX=1\n", (1, 4)),
+        (".WORD ^MPC\n", (1, 4)),
+        (".WORD ^M 2\n", (1, 4)),
+        (".ASCID\n", (1, 3)),
+        (".ASCID /ab\n", (1, 1)),
+        (".ASCID X\n", (1, 1)),
+        (".ASCID /a/=\n", (1, 4)),
+        (".ASCID /a/<256>\n", (1, 7)),
         (".ERROR 1\n", (1, 2)),
         (".REF1\n", (1, 3)),
         (".REF2 R0,R1\n", (1, 3)),
@@ -181,13 +295,66 @@ fn tells_the_faults_of_the_larger_dialect(rt: HostRuntime) {
         (".PSECT A,2,LONG\n.PSECT A,3\n", (2, 4)),
         (".ENABLE\n", (1, 3)),
         (".ENABLE LISTING\n", (1, 4)),
-        (".ENABLE ABSOLUTE\n", (1, 4)),
+        (".DEFAULT DISPLACEMENT\n", (1, 3)),
+        (".DEFAULT DISPLACEMENT,BYTE,WORD\n", (1, 3)),
+        (".DEFAULT DISPLACEMENT,QUAD\n", (1, 4)),
+        (".DEFAULT SIZE,BYTE\n", (1, 4)),
+        (
+            ".DEFAULT DISPLACEMENT,BYTE\nTSTL A\n.BLKB 200\nA: NOP\n",
+            (2, 7),
+        ),
         (".DISABLE DEBUG,GLOBAL\n", (1, 4)),
         (".ENABL LSB\n1$: NOP\n.DSABL LSB\nA: BRB 1$\n", (4, 5)),
         (".ENABL LSB\n1$: NOP\n1$: NOP\n", (3, 6)),
+        (".SAVE_PSECT GLOBAL\n", (1, 4)),
+        (".SAVE LOCAL_BLOCK,LOCAL_BLOCK\n", (1, 3)),
+        (".REPT 32\n.SAVE\n.ENDR\n", (1, 9)),
+        (".RESTORE_PSECT\n", (1, 8)),
+        (".SAVE\n.RESTORE\n.RESTORE\n", (3, 8)),
+        (".SAVE\n.RESTORE LOCAL_BLOCK\n", (2, 3)),
+        ("1$: NOP\n.SAVE\n.PSECT A\n.RESTORE\nBRB 1$\n", (5, 5)),
+        (
+            "1$: NOP\n.SAVE LOCAL_BLOCK\n.PSECT A\n.RESTORE\n1$: NOP\n",
+            (5, 6),
+        ),
     ];
     for (source, fault) in rows {
         assert!(rt; fault_of(alloc, Dialect::Vms, source) == fault, "{source}");
+    }
+}
+
+#[test]
+fn describes_a_text(rt: HostRuntime) -> Result<(), Fail> {
+    let source = b".PSECT A\n.BYTE 1\n.ASCID /ab/\n.IIF NE 1,.ASCID /;/\n";
+    let module = assemble(rt.alloc(), Dialect::Vms, source)?;
+    let relocs = [(5, 9), (15, 19)];
+    assert!(rt; module.relocs.as_slice().len() == relocs.len());
+    for (found, (offset, text)) in module.relocs.as_slice().iter().zip(relocs) {
+        let wanted = Reloc {
+            section: 1,
+            offset,
+            kind: RelocKind::Long,
+            target: Value::Section {
+                section: 1,
+                offset: text,
+            },
+        };
+        assert!(rt; *found == wanted);
+    }
+    Ok(())
+}
+
+#[test]
+fn reads_a_text_of_one_dialect_as_tokens_of_the_other(rt: HostRuntime) {
+    let alloc = rt.alloc();
+    let rows = [
+        (".ASCID /a;b/\n", (1, 2)),
+        (".ASCID ^a^\n", (1, 1)),
+        (".ASCID \"a\"\n", (1, 2)),
+        (".ASCID\n", (1, 2)),
+    ];
+    for (source, fault) in rows {
+        assert!(rt; fault_of(alloc, Dialect::Vax, source) == fault, "{source}");
     }
 }
 

@@ -46,7 +46,7 @@ line_tokens byte = token_at 0 (word Name (codes ".BYTE")) ∷ token_at 6 (word (
 
 no_more : (c : Context) (at : ℕ) → Scans c at [] []
 unfolding pieces_from
-no_more c at = refl
+no_more c at d = refl
 
 number_scanned : (byte : ℕ) → byte < 256 → Scans (operand_context true nothing_special) 6 (94 ∷ 88 ∷ hex 2 byte) (token_at 6 (word (Number byte) (94 ∷ 88 ∷ hex 2 byte)) ∷ [])
 number_scanned byte h =
@@ -63,13 +63,13 @@ number_scanned byte h =
 begins_dot : BeginsName 46
 begins_dot = record { no_blank = refl; no_comment = refl; no_digit = refl }
 
-pub byte_scanned : (byte : ℕ) → byte < 256 → tokens_of (byte_text byte) ≡ Ok (line_tokens byte)
+pub byte_scanned : (byte : ℕ) → byte < 256 → (d : Dialect) → tokens_of d (byte_text byte) ≡ Ok (line_tokens byte)
 unfolding pieces_of
-byte_scanned byte h =
+byte_scanned byte h d =
     let rest : List ℕ = 32 ∷ 94 ∷ 88 ∷ hex 2 byte in
     let head : head_of line_start (codes ".BYTE" ++ rest) ≡ begins Name 5 = operator_head 46 (codes "BYTE") rest begins_dot refl (omega arith) refl in
-    next_word line_start (behind_operator nothing_special) 0 Name (codes ".BYTE") rest (token_at 6 (word (Number byte) (94 ∷ 88 ∷ hex 2 byte)) ∷ []) (omega arith) head refl
-    (blank_passed false 5 (94 ∷ 88 ∷ hex 2 byte) (token_at 6 (word (Number byte) (94 ∷ 88 ∷ hex 2 byte)) ∷ []) (number_scanned byte h))
+    next_word line_start (behind_operator nothing_special) 0 Name (codes ".BYTE") rest (token_at 6 (word (Number byte) (94 ∷ 88 ∷ hex 2 byte)) ∷ []) (omega arith) head (λ d. refl)
+    (blank_passed false 5 (94 ∷ 88 ∷ hex 2 byte) (token_at 6 (word (Number byte) (94 ∷ 88 ∷ hex 2 byte)) ∷ []) (number_scanned byte h)) d
 
 byte_parsed : (byte : ℕ) → parsed (line_tokens byte) ≡ record { label = None; what = Operation (token_at 0 (word Name (codes ".BYTE"))) (token_at 6 (word (Number byte) (94 ∷ 88 ∷ hex 2 byte)) ∷ []) }
 unfolding parsed
@@ -96,5 +96,5 @@ byte_placed origin byte s h =
     let name : Token = token_at 0 (word Name (codes ".BYTE")) in
     let tokens : List Token = token_at 6 (word (Number byte) (94 ∷ 88 ∷ hex 2 byte)) ∷ [] in
     let named_so : directive_named s.dialect (token_text (byte_text byte) name) ≡ Some (directive.Data (data_kind.Number size.B)) = byte_named s.dialect in
-    placed_line origin (byte_text byte) (name ∷ tokens) (Operation name tokens) s (byte_scanned byte h) (byte_parsed byte) (ap is_listing_by named_so)
+    placed_line origin (byte_text byte) (name ∷ tokens) (Operation name tokens) s (byte_scanned byte h s.dialect) (byte_parsed byte) (ap is_listing_by named_so)
     ∙ body_made origin (byte_text byte) name tokens s (done (adds (byte_part origin byte (current_of s.sections).size ∷ []) (begun_at s)).progress) (directed_so origin (byte_text byte) (token_text (byte_text byte) name) tokens s named_so ∙ byte_stated origin byte s h)

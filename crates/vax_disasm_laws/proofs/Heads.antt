@@ -5,6 +5,7 @@ use Rattle.std.specs.List.{prefix_len, list_all}
 use Rattle.std.specs.Char.{is_ascii_graphic}
 use Rattle.std.proofs.Math.Seq.{take-append_seam, drop-append_seam}
 use Rattle.std.proofs.lemmas.Bool.Decides.{nat_tests}
+use Rattle.vax_dialect.specs.declared.Dialect.{Dialect}
 use Rattle.vax_lex.specs.Characters.{is_blank, is_delimiter, is_digit, is_name_character, number_of}
 use Rattle.vax_lex.specs.Tokens.{begins, head_of, plain, numeral, based, digit_run, number_head}
 use Rattle.vax_lex.specs.Statements.{Context, Place, first_name, other_operator, operands, Before, nothing_special, size_letter, context_after, is_size_letter, text_due}
@@ -135,14 +136,14 @@ decimal_head first d digits rest n all value fits =
     rw (no_text first d, plain_digits d (digits ++ 40 ∷ rest) each.0) (numeral_head (d ∷ digits) rest n all value fits)
 
 -- what is due behind a token
-pub behind_name : (first : Bool) (text : List ℕ) → context_after (operand_context first nothing_special) Name text ≡ operand_context false (if is_size_letter text then size_letter else nothing_special)
-behind_name true text = refl
-behind_name false text = refl
+pub behind_name : (first : Bool) (text : List ℕ) (d : Dialect) → context_after d (operand_context first nothing_special) Name text ≡ operand_context false (if is_size_letter text then size_letter else nothing_special)
+behind_name true text d = refl
+behind_name false text d = refl
 
-pub behind_number : (first : Bool) (n : ℕ) (text : List ℕ) → context_after (operand_context first nothing_special) (Number n) text ≡ operand_context false nothing_special
-behind_number true n text = refl
-behind_number false n text = refl
+pub behind_number : (first : Bool) (n : ℕ) (text : List ℕ) (d : Dialect) → context_after d (operand_context first nothing_special) (Number n) text ≡ operand_context false nothing_special
+behind_number true n text d = refl
+behind_number false n text d = refl
 
-pub behind_sign : (first : Bool) (m : ℕ) (text : List ℕ) → IsSign m → context_after (operand_context first nothing_special) (Mark m) text ≡ operand_context false nothing_special
-behind_sign true m text is = rw (is.no_caret, is.no_colon) refl
-behind_sign false m text is = rw (is.no_caret, is.no_colon) refl
+pub behind_sign : (first : Bool) (m : ℕ) (text : List ℕ) → IsSign m → (d : Dialect) → context_after d (operand_context first nothing_special) (Mark m) text ≡ operand_context false nothing_special
+behind_sign true m text is d = rw (is.no_caret, is.no_colon) refl
+behind_sign false m text is d = rw (is.no_caret, is.no_colon) refl

@@ -160,7 +160,7 @@ pub record IsOperator (name : List ℕ) : Type 0 where
   pub begins : BeginsName first
   pub characters : list_all is_name_character (first ∷ more) ≡ true
   pub short : length (first ∷ more) ≤ 31
-  pub operator : operator_of name ≡ other_operator
+  pub operator : (d : Dialect) → operator_of d name ≡ other_operator
 
 character_passes : (c : ℕ) → rows.is_name_character c ≡ true → is_name_character c ≡ true
 character_passes c h = grind (arith, nat_tests)
@@ -172,8 +172,8 @@ characters_pass (c ∷ text) all = rw (character_passes c (all 0 c (omega arith)
 pub no_dot : (c : ℕ) → is_ascii_uppercase c ≡ true → (to_ascii_uppercase c == 46) ≡ false
 no_dot c h = grind (arith, nat_tests)
 
-no_directive : (c : ℕ) (text : List ℕ) → is_ascii_uppercase c ≡ true → operator_of (c ∷ text) ≡ other_operator
-no_directive c text h = rw (no_dot c h) refl
+no_directive : (c : ℕ) (text : List ℕ) → is_ascii_uppercase c ≡ true → (d : Dialect) → operator_of d (c ∷ text) ≡ other_operator
+no_directive c text h d = rw (no_dot c h) refl
 
 begins_capital : (c : ℕ) → is_ascii_uppercase c ≡ true → BeginsName c
 begins_capital c h = record { no_blank = grind (arith, nat_tests); no_comment = grind (arith, nat_tests); no_digit = grind (arith, nat_tests) }
@@ -235,9 +235,9 @@ behind_blank true = refl
 behind_blank false = refl
 
 pub blank_passed : (size : Bool) (pos : ℕ) (rest : List ℕ) (tokens : List Token) → Scans (operand_context true nothing_special) (pos + 1) rest tokens → Scans (behind_operator (size_or_nothing size)) pos (32 ∷ rest) tokens
-blank_passed size pos rest tokens s =
-    let here = steps (behind_operator (size_or_nothing size)) pos (32 ∷ rest) blank (sym (blank_head size rest)) (subst (λ (x : Head). HeadFits (32 ∷ rest) x) (blank_head size rest) (head_fits (behind_operator (size_or_nothing size)) (32 ∷ rest))) in
-    rw (here, behind_blank size) s
+blank_passed size pos rest tokens s d =
+    let here = steps d (behind_operator (size_or_nothing size)) pos (32 ∷ rest) blank (sym (blank_head size rest)) (subst (λ (x : Head). HeadFits (32 ∷ rest) x) (blank_head size rest) (head_fits (behind_operator (size_or_nothing size)) (32 ∷ rest))) in
+    rw (here, behind_blank size) (s d)
 
 pub operator_head : (b : ℕ) (text rest : List ℕ) → BeginsName b → list_all is_name_character (b ∷ text) ≡ true → length (b ∷ text) ≤ 31 → ends is_name_character rest ≡ true → head_of line_start (b ∷ (text ++ rest)) ≡ begins Name (suc (length text))
 unfolding head_of
@@ -264,15 +264,15 @@ front_ends at End = refl
 front_ends at (ReservedHere count) = refl
 front_ends at (Next kind s count rest) = refl
 
-pub line_scanned : (name : List ℕ) (at : ℕ) (q : Sequence) → IsOperator name → AllFit q → tokens_of (name ++ front_text at q) ≡ Ok (token_at 0 (word Name name) ∷ front_tokens at (length name + 1) q)
+pub line_scanned : (name : List ℕ) (at : ℕ) (q : Sequence) → IsOperator name → AllFit q → (d : Dialect) → tokens_of d (name ++ front_text at q) ≡ Ok (token_at 0 (word Name name) ∷ front_tokens at (length name + 1) q)
 unfolding pieces_of
-line_scanned name at q is fit =
+line_scanned name at q is fit d =
     let some : 0 < length name = rw is.spelled (omega arith) in
     let zero_more : 0 + length name ≡ length name = omega arith in
     let head : head_of line_start (name ++ front_text at q) ≡ begins Name (length name) = rw is.spelled (operator_head is.first is.more (front_text at q) is.begins is.characters is.short (front_ends at q)) in
-    let after : context_after line_start Name name ≡ behind_operator (size_or_nothing (is_size_letter name)) = rw is.operator refl in
+    let after : (d : Dialect) → context_after d line_start Name name ≡ behind_operator (size_or_nothing (is_size_letter name)) = λ d. rw (is.operator d) refl in
     next_word line_start (behind_operator (size_or_nothing (is_size_letter name))) 0 Name name (front_text at q) (front_tokens at (length name + 1) q) some head after
-    (subst (λ (pos : ℕ). Scans (behind_operator (size_or_nothing (is_size_letter name))) pos (front_text at q) (front_tokens at (length name + 1) q)) (sym zero_more) (front_scanned (is_size_letter name) at (length name) q fit))
+    (subst (λ (pos : ℕ). Scans (behind_operator (size_or_nothing (is_size_letter name))) pos (front_text at q) (front_tokens at (length name + 1) q)) (sym zero_more) (front_scanned (is_size_letter name) at (length name) q fit)) d
 
 -- the statement
 
@@ -328,11 +328,11 @@ are_plain [] tokens e = record { tokens_are = cc; no_bad = refl; no_wide = refl 
 are_plain (p ∷ pieces) tokens e = plain_first p.kind p.start p.end pieces tokens (λ more f. are_plain pieces more f) e
 
 -- the statement of a line without a label
-pub placed_line : (origin : Origin) (line : List ℕ) (tokens : List Token) (what : What) (s : Standing) → tokens_of line ≡ Ok tokens → parsed tokens ≡ record { label = None; what = what } → is_listing s.dialect line what ≡ false
+pub placed_line : (origin : Origin) (line : List ℕ) (tokens : List Token) (what : What) (s : Standing) → tokens_of s.dialect line ≡ Ok tokens → parsed tokens ≡ record { label = None; what = what } → is_listing s.dialect line what ≡ false
     → placed origin line s ≡ alone (body_stated origin line what s)
 unfolding placed stated
 placed_line origin line tokens what s e p listing =
-    let a : ArePlain (pieces_of line) tokens = are_plain (pieces_of line) tokens e in
+    let a : ArePlain (pieces_of s.dialect line) tokens = are_plain (pieces_of s.dialect line) tokens e in
     rw (a.tokens_are, p, listing, a.no_bad, a.no_wide) refl
 
 -- ---- names of instructions
@@ -428,6 +428,6 @@ line_placed origin addr opcode bytes i q s are w e u =
     let text : token_text line name ≡ i.name = text_there line 0 (word Name i.name) (operands_text 32 (addr + 1) q) refl in
     let none : directive_named s.dialect (token_text line name) ≡ None = ap (directive_named s.dialect) text ∙ undirected s.dialect i.name f.name in
     let found : instruction_named (token_text line name) ≡ Some i = ap instruction_named text ∙ instruction_found opcode i f.name w in
-    placed_line origin line (name ∷ tokens) (Operation name tokens) s (line_scanned i.name (addr + 1) q operator fit) (parsed_operation i.name (addr + 1) pos q) (ap is_listing_by none)
+    placed_line origin line (name ∷ tokens) (Operation name tokens) s (line_scanned i.name (addr + 1) q operator fit s.dialect) (parsed_operation i.name (addr + 1) pos q) (ap is_listing_by none)
     ∙ body_made origin line name tokens s _ (operated origin line (token_text line name) tokens i s none found
     ∙ instruction_made origin line tokens addr opcode pos bytes i q s are ks w e u (parts_front (addr + 1) pos q) (front_there i.name (addr + 1) q))

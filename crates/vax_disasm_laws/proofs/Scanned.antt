@@ -39,9 +39,9 @@ pub record IsLetter (c : ℕ) : Type 0 where
 by_letter : (first : Bool) (c : ℕ) (words : List Word) (rest : List ℕ) → IsLetter c → Goes false words rest → Goes first (letter c ∷ sign 94 ∷ words) rest
 by_letter first c words rest is more = λ at tokens s.
     next_word (operand_context first nothing_special) (operand_context false size_letter) at Name (c ∷ []) (94 ∷ written words rest) (token_at (at + 1) (sign 94) ∷ (tokens_at (at + 1 + 1) words ++ tokens)) (omega arith)
-    (name_head first c [] (94 ∷ written words rest) is.begins (rw is.character refl) (omega arith) refl) (behind_name first (c ∷ []) ∙ rw is.size refl)
+    (name_head first c [] (94 ∷ written words rest) is.begins (rw is.character refl) (omega arith) refl) (λ d. behind_name first (c ∷ []) d ∙ rw is.size refl)
     (next_word (operand_context false size_letter) (operand_context false nothing_special) (at + 1) (Mark 94) (94 ∷ []) (written words rest) (tokens_at (at + 1 + 1) words ++ tokens) (omega arith)
-    (size_head (written words rest)) refl (more (at + 1 + 1) tokens s))
+    (size_head (written words rest)) (λ d. refl) (more (at + 1 + 1) tokens s))
 
 by_register : (first : Bool) (n : ℕ) (words : List Word) (rest : List ℕ) → n < 16 → ends is_name_character (written words rest) ≡ true → Goes false words rest → Goes first (register n ∷ words) rest
 by_register first n words rest h end more = λ at tokens s.
@@ -50,7 +50,7 @@ by_register first n words rest h end more = λ at tokens s.
     let head : head_of (operand_context first nothing_special) (register_name n ++ written words rest) ≡ begins Name (length (register_name n)) =
     rw is.spelled (name_head first is.first is.more (written words rest) is.begins is.characters is.short end) in
     next_word (operand_context first nothing_special) (operand_context false nothing_special) at Name (register_name n) (written words rest) (tokens_at (at + length (register_name n)) words ++ tokens) some
-    head (behind_name first (register_name n) ∙ rw is.no_size refl) (more (at + length (register_name n)) tokens s)
+    head (λ d. behind_name first (register_name n) d ∙ rw is.no_size refl) (more (at + length (register_name n)) tokens s)
 
 by_hexadecimal : (first : Bool) (places n : ℕ) (words : List Word) (rest : List ℕ) → 0 < places → n < 16 ^ places → n < 2 ^ 64 → ends (is_digit 16) (written words rest) ≡ true → Goes false words rest → Goes first (hexadecimal places n ∷ words) rest
 by_hexadecimal first places n words rest some fits wide end more = λ at tokens s.

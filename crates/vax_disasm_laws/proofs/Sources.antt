@@ -175,7 +175,7 @@ NoMark (t ∷ tokens) = (is_mark_kind 58 t.kind ≡ false) × (is_mark_kind 61 t
 pub record IsOrdinary (text : List ℕ) : Type 0 where
   pub operator : Token
   pub operands : List Token
-  pub tokens : tokens_of text ≡ Ok (operator ∷ operands)
+  pub tokens : (d : Dialect) → tokens_of d text ≡ Ok (operator ∷ operands)
   pub named : operator.kind ≡ Name
   pub no_mark : NoMark operands
   pub no_dash : ends_in_dash (operator ∷ operands) ≡ false
@@ -210,15 +210,15 @@ line_says : (dialect : Dialect) (names : Sense) (text : List ℕ) (number : ℕ)
 unfolding line_step as_piece
 line_says dialect names text number parts at texts count o =
     let line : Reading = record { number = number; depth = 0; text = text; parts = parts; labelled = false } in
-    let pieces : pieces_of text ≡ map as_piece (o.operator ∷ o.operands) = pieces_whole (pieces_of text) (o.operator ∷ o.operands) o.tokens in
-    let operator : (head_in (pieces_of text)).operator ≡ Some (as_piece o.operator) = ap (λ (ps : List Piece). (head_in ps).operator) pieces ∙ head_is o.operator o.operands o.named o.no_mark in
-    ap (outcome line count) (read_gives dialect names line (pieces_of text) (head_in (pieces_of text)) (as_piece o.operator) at texts count refl operator o.word)
+    let pieces : pieces_of dialect text ≡ map as_piece (o.operator ∷ o.operands) = pieces_whole (pieces_of dialect text) (o.operator ∷ o.operands) (o.tokens dialect) in
+    let operator : (head_in (pieces_of dialect text)).operator ≡ Some (as_piece o.operator) = ap (λ (ps : List Piece). (head_in ps).operator) pieces ∙ head_is o.operator o.operands o.named o.no_mark in
+    ap (outcome line count) (read_gives dialect names line (pieces_of dialect text) (head_in (pieces_of dialect text)) (as_piece o.operator) at texts count refl operator o.word)
 
 pub step_says : (dialect : Dialect) (names : Sense) (text : List ℕ) (at : ℕ) (texts : List (List ℕ)) (count : ℕ) → IsOrdinary text → length text ≤ 1024 → count < 100000
     → step names (left_of dialect at (text ∷ texts) count) ≡ Says (record { number = at + 1; text = text }) (left_of dialect (at + 1) texts (count + 1))
 unfolding step read_on
 step_says dialect names text at texts count o short few =
-    let dash : dash_in (pieces_of text) ≡ None = ap dash_in (pieces_whole (pieces_of text) (o.operator ∷ o.operands) o.tokens) ∙ no_dash (o.operator ∷ o.operands) o.no_dash in
+    let dash : dash_in (pieces_of dialect text) ≡ None = ap dash_in (pieces_whole (pieces_of dialect text) (o.operator ∷ o.operands) (o.tokens dialect)) ∙ no_dash (o.operator ∷ o.operands) o.no_dash in
     let not_long : nat_lt 1024 (length text) ≡ false = grind (arith, nat_tests) in
     let room : nat_le 100000 count ≡ false = grind (arith, nat_tests) in
     rw (not_long, room, dash, not_long) (line_says dialect names text (at + 1) (text ∷ []) (at + 1) texts (count + 1) o)
@@ -291,7 +291,7 @@ name_text : (address : ℕ) (i : Instruction) (q : Sequence) → token_text (ins
 unfolding instruction_text
 name_text address i q = text_there (i.name ++ operands_text 32 (address + 1) q) 0 (word Name i.name) (operands_text 32 (address + 1) q) refl
 
-line_tokens_are : (address : ℕ) (i : Instruction) (q : Sequence) → IsName i.name → AllFit q → tokens_of (instruction_text address i q) ≡ Ok (token_at 0 (word Name i.name) ∷ front_tokens (address + 1) (length i.name + 1) q)
+line_tokens_are : (address : ℕ) (i : Instruction) (q : Sequence) → IsName i.name → AllFit q → (d : Dialect) → tokens_of d (instruction_text address i q) ≡ Ok (token_at 0 (word Name i.name) ∷ front_tokens (address + 1) (length i.name + 1) q)
 unfolding instruction_text
 line_tokens_are address i q is fit = line_scanned i.name (address + 1) q (is_operator i.name is) fit
 

@@ -1,13 +1,15 @@
 -- Operands as statements: what an operand's text leaves in a section.
-use Rattle.std.proofs.Common.{◌≡◌, ℕ, ◌+◌, ◌*◌, ◌<◌, true, false, ℤ, pos, List, [], ◌∷◌, ◌++◌, length, Option, Some, None, Result, Ok, Err, refl, sym, subst, arith}
+use Rattle.std.proofs.Common.{◌≡◌, ℕ, ◌+◌, ◌*◌, ◌<◌, Bool, true, false, ℤ, pos, List, [], ◌∷◌, ◌++◌, length, Option, Some, None, Result, Ok, Err, refl, sym, ap, subst, ◌∙◌, arith}
 use Rattle.std.specs.Prelude.{if◌then◌else◌}
 use Rattle.vax_outside.specs.Hex.{hex}
 use Rattle.vax_dialect.specs.declared.Dialect.{Dialect}
 use Rattle.vax_isa.specs.declared.OperandKind.{OperandKind}
+use Rattle.vax_isa.specs.declared.actions.Narrow.{Narrow}
 use Rattle.vax_isa.specs.Rows.{IsKind}
 use Rattle.vax_lex.specs.declared.token.Token.{Token}
 use Rattle.vax_lex.specs.declared.value.Value.{Value}
 use Rattle.vax_lex.specs.declared.value.Value.TheVariants as value
+use Rattle.vax_lex.specs.declared.value.ExprError.{ExprError}
 use Rattle.vax_flat.specs.Operand.{plus}
 use Rattle.vax_flat.specs.Grammar.{Place, Deferred, Decrement, Increment, IncrementDeferred, Absolute, Displaced, DisplacedDeferred, Specifier, Literal, Register, Immediate, InMemory, Indexed, BranchBy}
 use Rattle.vax_asm_encode.specs.declared.operand.Field.{Field}
@@ -25,7 +27,7 @@ use Rattle.vax_asm_first.specs.Standing.{Standing, here_at}
 use Rattle.vax_asm_first.specs.declared.types.Content.TheVariants as content
 use Rattle.vax_asm_first.specs.declared.types.Origin.{Origin}
 use Rattle.vax_asm_instruction.proofs.Back.{operand_is_long}
-use Rattle.vax_asm_instruction.specs.Placing.{destination, field_at, has_expression, if_stands, operand_as, operand_at, operand_length}
+use Rattle.vax_asm_instruction.specs.Placing.{by_default, destination, field_at, has_expression, if_stands, mode_by_default, operand_as, operand_at, operand_length, written_under}
 use Rattle.vax_asm_instruction.specs.Stating.{Prepared, Reached, fault_in, operand_stated, prepared, zero_value}
 use Rattle.vax_asm_scope.specs.Scope.{Scope}
 use Rattle.vax_asm_second.specs.Laid.{held, holding}
@@ -110,7 +112,17 @@ index_for (InMemory p) = None
 index_for (Indexed p x) = Some x
 index_for (BranchBy d) = None
 
-module _ (dialect own : Dialect) (origin : Origin) (line : List ℕ) (here : Value) (scope : Scope) where
+-- The modes that are written out stay as they are.
+place_stays : (absolute : Bool) (p : Place) (expression : List Token) (index : Option ℕ) → written_under absolute (moded (place_mode p) expression index) ≡ moded (place_mode p) expression index
+place_stays absolute (Deferred n) expression index = refl
+place_stays absolute (Decrement n) expression index = refl
+place_stays absolute (Increment n) expression index = refl
+place_stays absolute (IncrementDeferred n) expression index = refl
+place_stays absolute (Absolute a) expression index = refl
+place_stays absolute (Displaced width d n) expression index = refl
+place_stays absolute (DisplacedDeferred width d n) expression index = refl
+
+module _ (absolute : Bool) (dialect own : Dialect) (origin : Origin) (line : List ℕ) (here : Value) (scope : Scope) where
   with_number : (m : Mode) (index : Option ℕ) (expression : List Token) (z : ℤ) → has_expression m ≡ true → HasValue line expression z
       → prepared dialect (site_at own origin line here) (moded m expression index) scope ≡ with_value m index (value.Absolute z) scope
   unfolding value_in
@@ -127,19 +139,19 @@ module _ (dialect own : Dialect) (origin : Origin) (line : List ℕ) (here : Val
 
   module _ (kind : OperandKind) (at : ℕ) (k : IsKind kind) where
     abbrev IsPrepared : (next : ℕ) → Specifier → List Token → Type 0
-    IsPrepared next s tokens = prepared dialect (site_at own origin line here) (operand_as kind line tokens) scope ≡ with_value (mode_for s) (index_for s) (value_for next s) scope
+    IsPrepared next s tokens = prepared dialect (site_at own origin line here) (operand_as absolute kind line tokens) scope ≡ with_value (mode_for s) (index_for s) (value_for next s) scope
 
-    as_written : (tokens : List Token) (o : modes.Operand) (p : Prepared) → takes_branch kind.letter ≡ false → operand_of line tokens ≡ o → prepared dialect (site_at own origin line here) o scope ≡ p → prepared dialect (site_at own origin line here) (operand_as kind line tokens) scope ≡ p
-    as_written tokens o p clear is e = rw (clear, is) e
+    as_written : (tokens : List Token) (o : modes.Operand) (p : Prepared) → takes_branch kind.letter ≡ false → operand_of line tokens ≡ o → written_under absolute o ≡ o → prepared dialect (site_at own origin line here) o scope ≡ p → prepared dialect (site_at own origin line here) (operand_as absolute kind line tokens) scope ≡ p
+    as_written tokens o p clear is same e = rw clear (ap (λ (x : modes.Operand). prepared dialect (site_at own origin line here) x scope) (ap (written_under absolute) is ∙ same) ∙ e)
 
-    as_branch : (tokens : List Token) (p : Prepared) → takes_branch kind.letter ≡ true → prepared dialect (site_at own origin line here) (destination tokens) scope ≡ p → prepared dialect (site_at own origin line here) (operand_as kind line tokens) scope ≡ p
+    as_branch : (tokens : List Token) (p : Prepared) → takes_branch kind.letter ≡ true → prepared dialect (site_at own origin line here) (destination tokens) scope ≡ p → prepared dialect (site_at own origin line here) (operand_as absolute kind line tokens) scope ≡ p
     as_branch tokens p takes e = rw takes e
 
     memory_prepared : (next : ℕ) (p : Place) → May kind (InMemory p) → AreThere line at (place_words p []) → IsPrepared next (InMemory p) (tokens_at at (place_words p []))
     memory_prepared next p h there =
         let tokens : List Token = tokens_at at (place_words p []) in
         let r : PlaceReads line tokens p = place_reads line at p (place_fits p h.0) there in
-        as_written tokens (moded (place_mode p) r.expression None) (with_value (place_mode p) None (place_value p) scope) h.1 (in_memory line tokens p r) (place_prepared p None r.expression r.means)
+        as_written tokens (moded (place_mode p) r.expression None) (with_value (place_mode p) None (place_value p) scope) h.1 (in_memory line tokens p r) (place_stays absolute p r.expression None) (place_prepared p None r.expression r.means)
 
     index_prepared : (next : ℕ) (p : Place) (x : ℕ) → May kind (Indexed p x) → AreThere line at (place_words p [] ++ index_words x) → IsPrepared next (Indexed p x) (tokens_at at (place_words p [] ++ index_words x))
     index_prepared next p x h there =
@@ -148,18 +160,18 @@ module _ (dialect own : Dialect) (origin : Origin) (line : List ℕ) (here : Val
         let less : x < 16 = let l = h.0 in omega arith in
         let is = indexed line (behind at (place_words p [])) x (tokens_at at (place_words p [])) p r less apart.1 in
         rw (tokens-append at (place_words p []) (index_words x))
-        (as_written (tokens_at at (place_words p []) ++ tokens_at (behind at (place_words p [])) (index_words x)) (moded (place_mode p) r.expression (Some x)) (with_value (place_mode p) (Some x) (place_value p) scope) h.3 is (place_prepared p (Some x) r.expression r.means))
+        (as_written (tokens_at at (place_words p []) ++ tokens_at (behind at (place_words p [])) (index_words x)) (moded (place_mode p) r.expression (Some x)) (with_value (place_mode p) (Some x) (place_value p) scope) h.3 is (place_stays absolute p r.expression (Some x)) (place_prepared p (Some x) r.expression r.means))
 
     specifier_prepared : (s : Specifier) (next : ℕ) → May kind s → AreThere line at (specifier_words kind next s) → IsPrepared next s (tokens_at at (specifier_words kind next s))
     specifier_prepared (Literal n) next h there =
         let expression : List Token = tokens_at (at + 1 + 1 + 1) (hexadecimal 2 n ∷ []) in
-        as_written (tokens_at at (specifier_words kind next (Literal n))) (moded mode.Literal expression None) (with_value mode.Literal None (value.Absolute (pos n)) scope) (read_no_branch kind.letter h.1) (literal_words line at n there)
+        as_written (tokens_at at (specifier_words kind next (Literal n))) (moded mode.Literal expression None) (with_value mode.Literal None (value.Absolute (pos n)) scope) (read_no_branch kind.letter h.1) (literal_words line at n there) refl
         (with_number mode.Literal None expression (pos n) refl (positive line (at + 1 + 1 + 1) n (94 ∷ 88 ∷ hex 2 n) (let l = h.0 in omega arith)))
     specifier_prepared (Register n) next h there =
-        as_written (tokens_at at (register n ∷ [])) (moded (mode.Register n) [] None) (with_value (mode.Register n) None zero_value scope) (register_no_branch kind.letter h.2) (register_words line at n h.0 there) refl
+        as_written (tokens_at at (register n ∷ [])) (moded (mode.Register n) [] None) (with_value (mode.Register n) None zero_value scope) (register_no_branch kind.letter h.2) (register_words line at n h.0 there) refl refl
     specifier_prepared (Immediate n) next h there =
         let expression : List Token = tokens_at (at + 1 + 1 + 1) (hexadecimal (2 * kind.width) n ∷ []) in
-        as_written (tokens_at at (specifier_words kind next (Immediate n))) (moded mode.Immediate expression None) (with_value mode.Immediate None (value_for next (Immediate n)) scope) (result_no_branch kind.letter h.1) (immediate_words line at (2 * kind.width) n there)
+        as_written (tokens_at at (specifier_words kind next (Immediate n))) (moded mode.Immediate expression None) (with_value mode.Immediate None (value_for next (Immediate n)) scope) (result_no_branch kind.letter h.1) (immediate_words line at (2 * kind.width) n there) refl
         (with_number mode.Immediate None expression _ refl (unsigned line (at + 1 + 1 + 1) n (94 ∷ 88 ∷ hex (2 * kind.width) n)))
     specifier_prepared (InMemory p) next h there = memory_prepared next p h there
     specifier_prepared (Indexed p x) next h there =
@@ -175,15 +187,26 @@ module _ (dialect own : Dialect) (origin : Origin) (line : List ℕ) (here : Val
 chosen_by : (kind : OperandKind) (o : Operand) (x : Option Operand) → takes_branch kind.letter ≡ false → x ≡ Some o → may_stand kind o ≡ true → (if takes_branch kind.letter then Some operand.Branch else if_stands kind x) ≡ Some o
 chosen_by kind o x clear is may = rw (clear, is, may) refl
 
-chosen : (kind : OperandKind) (next : ℕ) (s : Specifier) (section at : ℕ) → May kind s → operand_at kind (record { mode = mode_for s; index = index_for s; value = Ok (value_for next s) }) section at ≡ Some (operand_for s)
-chosen kind next (Literal n) section at h = chosen_by kind operand.Literal (Some operand.Literal) (read_no_branch kind.letter h.1) refl (stands_for kind (Literal n) h)
-chosen kind next (Register n) section at h = chosen_by kind (operand.Register n) (Some (operand.Register n)) (register_no_branch kind.letter h.2) refl (stands_for kind (Register n) h)
-chosen kind next (Immediate n) section at h = chosen_by kind operand.Immediate (Some operand.Immediate) (result_no_branch kind.letter h.1) refl (stands_for kind (Immediate n) h)
-chosen kind next (InMemory p) section at h =
-    chosen_by kind (operand_for (InMemory p)) (sized (place_mode p) None section (at + 1) (Ok (place_value p))) h.1 (place_sized p section (at + 1) (Ok (place_value p))) (stands_for kind (InMemory p) h)
-chosen kind next (Indexed p x) section at h =
-    chosen_by kind (operand_for (Indexed p x)) (sized (place_mode p) (Some x) section (at + 2) (Ok (place_value p))) h.3 (indexed_sized p x section (at + 2) (Ok (place_value p))) (stands_for kind (Indexed p x) h)
-chosen kind next (BranchBy d) section at h = rw h.2 refl
+default_stays : (size : Narrow) (section : ℕ) (v : Result Value ExprError) (p : Place) → mode_by_default size section v (place_mode p) ≡ place_mode p
+default_stays size section v (Deferred n) = refl
+default_stays size section v (Decrement n) = refl
+default_stays size section v (Increment n) = refl
+default_stays size section v (IncrementDeferred n) = refl
+default_stays size section v (Absolute a) = refl
+default_stays size section v (Displaced width d n) = refl
+default_stays size section v (DisplacedDeferred width d n) = refl
+
+chosen : (kind : OperandKind) (next : ℕ) (s : Specifier) (size : Narrow) (section at : ℕ) → May kind s → operand_at kind (by_default size section (record { mode = mode_for s; index = index_for s; value = Ok (value_for next s) })) section at ≡ Some (operand_for s)
+chosen kind next (Literal n) size section at h = chosen_by kind operand.Literal (Some operand.Literal) (read_no_branch kind.letter h.1) refl (stands_for kind (Literal n) h)
+chosen kind next (Register n) size section at h = chosen_by kind (operand.Register n) (Some (operand.Register n)) (register_no_branch kind.letter h.2) refl (stands_for kind (Register n) h)
+chosen kind next (Immediate n) size section at h = chosen_by kind operand.Immediate (Some operand.Immediate) (result_no_branch kind.letter h.1) refl (stands_for kind (Immediate n) h)
+chosen kind next (InMemory p) size section at h =
+    rw (default_stays size section (Ok (place_value p)) p)
+    (chosen_by kind (operand_for (InMemory p)) (sized (place_mode p) None section (at + 1) (Ok (place_value p))) h.1 (place_sized p section (at + 1) (Ok (place_value p))) (stands_for kind (InMemory p) h))
+chosen kind next (Indexed p x) size section at h =
+    rw (default_stays size section (Ok (place_value p)) p)
+    (chosen_by kind (operand_for (Indexed p x)) (sized (place_mode p) (Some x) section (at + 2) (Ok (place_value p))) h.3 (indexed_sized p x section (at + 2) (Ok (place_value p))) (stands_for kind (Indexed p x) h))
+chosen kind next (BranchBy d) size section at h = rw h.2 refl
 
 -- ---- no field has a fault
 
@@ -219,4 +242,4 @@ pub specifier_stated : (own : Dialect) (origin : Origin) (line : List ℕ) (here
     → operand_stated (site_at own origin line here) kind (tokens_at place (specifier_words kind next s)) at t ≡ left_by origin kind next at s t
 specifier_stated own origin line here kind place at next s t k may there =
     let long : operand_length kind (operand_for s) ≡ length_for kind s = sym (operand_is_long kind (operand_for s) 0) in
-    rw (specifier_prepared t.dialect own origin line (here_at t.dialect here (value.Section t.sections.current (pos at))) t.scope kind place k s next may there, chosen kind next s t.sections.current at may, no_fault kind next s t.sections.current (field_at (operand_for s) at) k may, long) refl
+    rw (specifier_prepared t.absolute t.dialect own origin line (here_at t.dialect here (value.Section t.sections.current (pos at))) t.scope kind place k s next may there, chosen kind next s t.displacement t.sections.current at may, no_fault kind next s t.sections.current (field_at (operand_for s) at) k may, long) refl

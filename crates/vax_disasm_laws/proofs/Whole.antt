@@ -85,7 +85,7 @@ AllFit (Next kind s count rest) = Fits kind s × AllFit rest
 
 pub no_more : (c : Context) (pos : ℕ) → Scans c pos [] []
 unfolding pieces_from
-no_more c pos = refl
+no_more c pos d = refl
 
 pub operand_scanned : (first : Bool) (kind : OperandKind) (s : Specifier) (at pos : ℕ) (rest : Sequence) → Fits kind s → Scans (operand_context false nothing_special) (behind pos (specifier_words kind at s)) (operands_text 44 at rest) (tokens_at (behind pos (specifier_words kind at s)) (after_words at rest))
     → Scans (operand_context first nothing_special) pos (specifier_text kind at s ++ operands_text 44 at rest) (tokens_at pos (specifier_words kind at s ++ after_words at rest))

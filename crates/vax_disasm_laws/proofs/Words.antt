@@ -2,6 +2,7 @@
 use Rattle.std.proofs.Common.{◌≡◌, ℕ, ◌+◌, ◌-◌, ◌<◌, List, [], ◌∷◌, ◌++◌, length, take, drop, Ok, refl, ap, ◌∙◌, sym, subst, arith}
 use Rattle.std.proofs.Math.Seq.{take-append_seam, drop-append_seam}
 use Rattle.std.proofs.lemmas.List.{drop-drop}
+use Rattle.vax_dialect.specs.declared.Dialect.{Dialect}
 use Rattle.vax_lex.specs.Tokens.{Head, HeadFits, begins, head_of, pieces_from, tokens_in, token_text, piece}
 use Rattle.vax_lex.specs.Statements.{Context, context_after}
 use Rattle.vax_lex.proofs.Lines.{steps}
@@ -68,14 +69,14 @@ pub behind-append : (at : ℕ) (front words : List Word) → behind at (front ++
 behind-append at [] words = refl
 behind-append at (w ∷ front) words = behind-append (at + length w.text) front words
 
--- a scan from a place gives these tokens
+-- a scan from a place gives these tokens, in either dialect
 abbrev pub Scans : Context → ℕ → List ℕ → List Token → Type 0
-Scans c at bytes tokens = tokens_in (pieces_from c at 0 bytes) ≡ Ok tokens
+Scans c at bytes tokens = (d : Dialect) → tokens_in (pieces_from d c at 0 bytes) ≡ Ok tokens
 
 -- a scan goes on behind a word
-pub next_word : (c after : Context) (at : ℕ) (kind : TokenKind) (text rest : List ℕ) (tokens : List Token) → 0 < length text → head_of c (text ++ rest) ≡ begins kind (length text) → context_after c kind text ≡ after
+pub next_word : (c after : Context) (at : ℕ) (kind : TokenKind) (text rest : List ℕ) (tokens : List Token) → 0 < length text → head_of c (text ++ rest) ≡ begins kind (length text) → ((d : Dialect) → context_after d c kind text ≡ after)
     → Scans after (at + length text) rest tokens → Scans c at (text ++ rest) (token_at at (word kind text) ∷ tokens)
-next_word c after at kind text rest tokens some h e s =
-    let here : pieces_from c at 0 (text ++ rest) ≡ piece (kinds.Token kind) at (length text) ∷ pieces_from (context_after c kind (take (length text) (text ++ rest))) (at + length text) 0 (drop (length text) (text ++ rest)) =
-    steps c at (text ++ rest) (begins kind (length text)) (sym h) (subst (λ (x : Head). HeadFits (text ++ rest) x) h (head_fits c (text ++ rest))) in
-    rw (here, take-append_seam text rest, drop-append_seam text rest, e, s) refl
+next_word c after at kind text rest tokens some h e s d =
+    let here : pieces_from d c at 0 (text ++ rest) ≡ piece (kinds.Token kind) at (length text) ∷ pieces_from d (context_after d c kind (take (length text) (text ++ rest))) (at + length text) 0 (drop (length text) (text ++ rest)) =
+    steps d c at (text ++ rest) (begins kind (length text)) (sym h) (subst (λ (x : Head). HeadFits (text ++ rest) x) h (head_fits c (text ++ rest))) in
+    rw (here, take-append_seam text rest, drop-append_seam text rest, e d, s d) refl

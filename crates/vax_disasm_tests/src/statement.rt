@@ -164,8 +164,8 @@ fn reads_operands_of_directives(rt: HostRuntime) -> Result<(), Fail> {
         (".noshow", Some(Directive::Listing)),
         (".SBTTL", Some(Directive::Listing)),
         (".subtitle", Some(Directive::Listing)),
-        (".BLKL", Some(Directive::Space(Size::L))),
-        (".blka", Some(Directive::Space(Size::L))),
+        (".BLKL", Some(Directive::Space(DataKind::Number(Size::L)))),
+        (".blka", Some(Directive::Space(DataKind::Number(Size::L)))),
         (".BYTE", Some(Directive::Data(DataKind::Number(Size::B)))),
         (
             ".SIGNED_BYTE",

@@ -377,7 +377,7 @@ static OUTSIDE: [(&str, u32, i64); 5] = [
     ("<E+1>+1", 0, 2),
 ];
 
-static FORM: [&str; 52] = [
+static FORM: [&str; 54] = [
     "",
     "+",
     "5+",
@@ -430,6 +430,8 @@ static FORM: [&str; 52] = [
     "<5+>",
     "A^M",
     ".ASCII /a/",
+    "^MR2",
+    "^M R2+1",
 ];
 
 static UNKNOWN: [&str; 14] = [
@@ -555,7 +557,10 @@ static FAULTS: [(&str, Option<ExprError>); 9] = [
     ("6/A", None),
 ];
 
-static LONGWORDS: [(&str, Result<Value, ExprError>); 12] = [
+static LONGWORDS: [(&str, Result<Value, ExprError>); 15] = [
+    ("^MR2", Ok(Value::Absolute(4))),
+    ("^M R3+1", Ok(Value::Absolute(9))),
+    ("^MA", Err(ExprError::Form)),
     ("^XFFFFFFFF", Ok(Value::Absolute(4_294_967_295))),
     ("^X100000000", Ok(Value::Absolute(4_294_967_296))),
     ("^X100000000+0", Ok(Value::Absolute(0))),
@@ -614,7 +619,11 @@ fn some_faults_stay_whatever_names_stand_for(rt: HostRuntime) -> Result<(), Fail
 
 #[test]
 fn a_faulty_line_has_its_pieces(rt: HostRuntime) -> Result<(), Fail> {
-    let found = pieces(rt.alloc(), b"5 99999999999999999999,^QR ^; ^R")?;
+    let found = pieces(
+        rt.alloc(),
+        Dialect::Vax,
+        b"5 99999999999999999999,^QR ^; ^R",
+    )?;
     let kinds = [
         PieceKind::Token(TokenKind::Number(5)),
         PieceKind::Wide,
@@ -627,6 +636,17 @@ fn a_faulty_line_has_its_pieces(rt: HostRuntime) -> Result<(), Fail> {
     for (i, (piece, kind)) in found.iter().zip(kinds).enumerate() {
         assert!(rt; piece.kind == kind, "piece {i}");
     }
+    Ok(())
+}
+
+#[test]
+fn a_text_has_its_pieces_in_one_dialect(rt: HostRuntime) -> Result<(), Fail> {
+    let line = b"A: .ascid /b;/ <9>";
+    let found = pieces(rt.alloc(), Dialect::Vms, line)?;
+    assert!(rt; found.len() == 7);
+    assert!(rt; found[3].kind == PieceKind::Token(TokenKind::Text));
+    assert!(rt; pieces(rt.alloc(), Dialect::Vax, line)?.len() == 5);
+    assert!(rt; pieces(rt.alloc(), Dialect::Vms, b".ASCIE /b;/")?.len() == 3);
     Ok(())
 }
 

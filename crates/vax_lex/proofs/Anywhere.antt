@@ -4,6 +4,7 @@ use Rattle.std.specs.Prelude.{◌&&◌, ◌==◌, codes}
 use Rattle.std.proofs.lemmas.List.{length-take, length-drop, take-append-drop}
 use Rattle.std.proofs.Math.Seq.{take-append_seam, drop-append_seam}
 use Rattle.std.proofs.lemmas.Bool.Decides.{nat_tests}
+use Rattle.vax_dialect.specs.declared.Dialect.TheVariants.{Vax}
 use Rattle.vax_lex.specs.Characters.{spells}
 use Rattle.vax_lex.specs.Statements.{Context, context_after, context_after_blank, is_caret, is_size, is_text_sign, is_size_letter, is_first_name, is_name}
 use Rattle.vax_lex.specs.Tokens.{Head, blank, no_more, begins, too_wide, no_token, plain, stray_kind, HeadFits}
@@ -30,7 +31,7 @@ pub record Knows (c : Context) (before : List Part) : Type 0 where
 knows_blank : (c : Context) (before : List Part) → Knows (context_after_blank c) (space ∷ before)
 knows_blank c before = record { operator = caret_blank (is_text_sign c.before); size = size_blank (is_text_sign c.before) }
 
-knows_token : (c : Context) (before : List Part) (kind : TokenKind) (text : List ℕ) → Knows c before → Knows (context_after c kind text) (part_of (token kind text) ∷ before)
+knows_token : (c : Context) (before : List Part) (kind : TokenKind) (text : List ℕ) → Knows c before → Knows (context_after Vax c kind text) (part_of (token kind text) ∷ before)
 knows_token c before Name text k = record {
   operator = caret_name (is_caret c.before) (spells (codes "A") text) (is_size_letter text);
   size = size_name (is_caret c.before) (spells (codes "A") text) (is_size_letter text) ∙ ap (λ (t : Bool). not t && is_size_letter text) k.operator;
@@ -42,10 +43,10 @@ knows_token c before (Mark m) text k = record {
 }
 knows_token c before Text text k = record { operator = refl; size = refl }
 
-knows_stray : (c : Context) (before : List Part) (b : ℕ) (text : List ℕ) → Knows c before → Knows (context_after c (stray_kind b) text) (part_of (stray b) ∷ before)
+knows_stray : (c : Context) (before : List Part) (b : ℕ) (text : List ℕ) → Knows c before → Knows (context_after Vax c (stray_kind b) text) (part_of (stray b) ∷ before)
 knows_stray c before b text k = by_test (b == 94)
   where
-    by_test : (t : Bool) → Knows (context_after c (cond t (Number 0) (Mark b)) text) (cond t numeric (sign b) ∷ before)
+    by_test : (t : Bool) → Knows (context_after Vax c (cond t (Number 0) (Mark b)) text) (cond t numeric (sign b) ∷ before)
     by_test true = knows_token c before (Number 0) text k
     by_test false = knows_token c before (Mark b) text k
 
@@ -124,22 +125,22 @@ names_are c before at (gap b ∷ elements) k (s, more) =
     ∙ names_are (context_after_blank c) (space ∷ before) (at + 1) elements (knows_blank c before) more
 names_are c before at (token kind text ∷ elements) k (s, more) =
     let rest = written elements in
-    let next = context_after c kind (take (length text) (text ++ rest)) in
+    let next = context_after Vax c kind (take (length text) (text ++ rest)) in
     let same : take (length text) (text ++ rest) ≡ text = take-append_seam text rest in
-    let P : List ℕ → Type 0 = λ x. Knows (context_after c kind x) (part_of (token kind text) ∷ before) in
+    let P : List ℕ → Type 0 = λ x. Knows (context_after Vax c kind x) (part_of (token kind text) ∷ before) in
     over c before at (token kind text) rest (record { length = length text; is_name = is_name kind; context = next }) k s refl (some_token c before kind text rest s)
     ∙ ap (λ (x : List ℕ). with_name (record { length = length text; is_name = is_name kind; context = next }) at (names_from next (at + length text) zero x)) (drop-append_seam text rest)
     ∙ ap (λ (x : List Span). with_name (record { length = length text; is_name = is_name kind; context = next }) at x) (names_are next (part_of (token kind text) ∷ before) (at + length text) elements (subst P (sym same) (knows_token c before kind text k)) more)
     ∙ with_names kind text at next elements
 names_are c before at (wide text ∷ elements) k (s, more) =
     let rest = written elements in
-    let next = context_after c (Number 0) (take (length text) (text ++ rest)) in
+    let next = context_after Vax c (Number 0) (take (length text) (text ++ rest)) in
     over c before at (wide text) rest (record { length = length text; is_name = false; context = next }) k s refl (some_wide before text rest s)
     ∙ ap (names_from next (at + length text) zero) (drop-append_seam text rest)
     ∙ names_are next (part_of (wide text) ∷ before) (at + length text) elements (record { operator = refl; size = refl }) more
 names_are c before at (stray b ∷ elements) k (s, more) =
-    over c before at (stray b) (written elements) (record { length = 1; is_name = false; context = context_after c (stray_kind b) (b ∷ []) }) k s refl (omega arith)
-    ∙ names_are (context_after c (stray_kind b) (b ∷ [])) (part_of (stray b) ∷ before) (at + 1) elements (knows_stray c before b (b ∷ []) k) more
+    over c before at (stray b) (written elements) (record { length = 1; is_name = false; context = context_after Vax c (stray_kind b) (b ∷ []) }) k s refl (omega arith)
+    ∙ names_are (context_after Vax c (stray_kind b) (b ∷ [])) (part_of (stray b) ∷ before) (at + 1) elements (knows_stray c before b (b ∷ []) k) more
 
 pub only_names : (text : List ℕ) (names : List Span) → HasNames text names → names ≡ names_of text
 unfolding names_of
@@ -187,19 +188,19 @@ by_head : (n : ℕ) (c : Context) (before : List Part) (b : ℕ) (bytes : List �
 by_head n c before b bytes blank l k e f more =
     one_more before (gap b) bytes (b ∷ bytes) refl (stands_there c before (gap b) bytes b bytes k refl e) (more (context_after_blank c) (space ∷ before) bytes (omega (arith, l)) (knows_blank c before))
 by_head n c before b bytes no_more l k e f more =
-    one_more before (stray b) bytes (b ∷ bytes) refl (comment_stands c before b bytes k e f) (more (context_after c (stray_kind b) (b ∷ [])) (part_of (stray b) ∷ before) bytes (omega (arith, l)) (knows_stray c before b (b ∷ []) k))
+    one_more before (stray b) bytes (b ∷ bytes) refl (comment_stands c before b bytes k e f) (more (context_after Vax c (stray_kind b) (b ∷ [])) (part_of (stray b) ∷ before) bytes (omega (arith, l)) (knows_stray c before b (b ∷ []) k))
 by_head n c before b bytes (begins kind j) l k e f more =
     let text = take j (b ∷ bytes) in
     let size : length text ≡ j = omega (arith, length-take j (b ∷ bytes), f.1) in
     one_more before (token kind text) (drop j (b ∷ bytes)) (b ∷ bytes) (take-append-drop j (b ∷ bytes)) (stands_there c before (token kind text) (drop j (b ∷ bytes)) b bytes k (take-append-drop j (b ∷ bytes)) (e ∙ ap (begins kind) (sym size)))
-    (more (context_after c kind text) (part_of (token kind text) ∷ before) (drop j (b ∷ bytes)) (omega (arith, l, length-drop j (b ∷ bytes), f.0)) (knows_token c before kind text k))
+    (more (context_after Vax c kind text) (part_of (token kind text) ∷ before) (drop j (b ∷ bytes)) (omega (arith, l, length-drop j (b ∷ bytes), f.0)) (knows_token c before kind text k))
 by_head n c before b bytes (too_wide j) l k e f more =
     let text = take j (b ∷ bytes) in
     let size : length text ≡ j = omega (arith, length-take j (b ∷ bytes), f.1) in
     one_more before (wide text) (drop j (b ∷ bytes)) (b ∷ bytes) (take-append-drop j (b ∷ bytes)) (stands_there c before (wide text) (drop j (b ∷ bytes)) b bytes k (take-append-drop j (b ∷ bytes)) (e ∙ ap too_wide (sym size)))
-    (more (context_after c (Number 0) text) (part_of (wide text) ∷ before) (drop j (b ∷ bytes)) (omega (arith, l, length-drop j (b ∷ bytes), f.0)) (record { operator = refl; size = refl }))
+    (more (context_after Vax c (Number 0) text) (part_of (wide text) ∷ before) (drop j (b ∷ bytes)) (omega (arith, l, length-drop j (b ∷ bytes), f.0)) (record { operator = refl; size = refl }))
 by_head n c before b bytes no_token l k e f more =
-    one_more before (stray b) bytes (b ∷ bytes) refl (stands_there c before (stray b) bytes b bytes k refl e) (more (context_after c (stray_kind b) (b ∷ [])) (part_of (stray b) ∷ before) bytes (omega (arith, l)) (knows_stray c before b (b ∷ []) k))
+    one_more before (stray b) bytes (b ∷ bytes) refl (stands_there c before (stray b) bytes b bytes k refl e) (more (context_after Vax c (stray_kind b) (b ∷ [])) (part_of (stray b) ∷ before) bytes (omega (arith, l)) (knows_stray c before b (b ∷ []) k))
 
 split : (n : ℕ) (c : Context) (before : List Part) (bytes : List ℕ) → length bytes ≤ n → Knows c before → Split before bytes
 split n c before [] l k = record { elements = []; spells = refl; found = tt }

@@ -1,6 +1,7 @@
 -- A token opens at most one bracket.
 use Rattle.std.proofs.Common.{◌≡◌, ◌≤◌, ℕ, zero, suc, ◌+◌, ◌-◌, Bool, true, false, not, cond, List, ap, arith}
 use Rattle.std.specs.Prelude.{◌&&◌, ◌==◌, nat_le}
+use Rattle.vax_dialect.specs.declared.Dialect.{Dialect}
 use Rattle.vax_lex.specs.Statements.{Operator, text_directive, immediate_if, other_operator, Subject, on_two_texts, on_text, on_no_text, Place, statement, first_name, behind_label, text_piece, bracketed_piece, condition_name, condition_end, expression_rest, text_argument, between_arguments, operands, Before, Context, open_brackets, context_after, context_after_blank, place_after, operand_after, operand_place, argument_after, argument_place, expression_after, begun_after, subject_of, operator_of, is_mark, is_name, is_text, is_colon}
 use Rattle.vax_lex.specs.declared.token.TokenKind.{TokenKind}
 
@@ -55,23 +56,24 @@ operator_depth other_operator = omega arith
 behind_operator : (o : Operator) (kind : TokenKind) (text : List ℕ) → open_brackets (operand_after (operand_place o) kind text) ≤ 1
 behind_operator o kind text = omega (arith, operator_depth o, operand_depth (operand_place o) kind text)
 
-place_depth : (p : Place) (b : Before) (kind : TokenKind) (text : List ℕ) → open_brackets (place_after (record { place = p; before = b }) kind text) ≤ open_brackets p + 1
-place_depth statement b kind text = deep_if (is_name kind) (first_name (operator_of text)) operands 1 (omega arith) (omega arith)
-place_depth (first_name operator) b kind text = deep_if (is_mark 58 kind) behind_label _ 1 (omega arith) (behind_operator operator kind text)
-place_depth behind_label b kind text =
-    deep_if (is_name kind) (operand_place (operator_of text)) _ 1 (omega (arith, operator_depth (operator_of text)))
-    (deep_if (is_mark 58 kind && is_colon b) behind_label operands 1 (omega arith) (omega arith))
-place_depth text_piece b kind text = operand_depth text_piece kind text
-place_depth (bracketed_piece depth) b kind text = operand_depth (bracketed_piece depth) kind text
-place_depth condition_name b kind text = operand_depth condition_name kind text
-place_depth (condition_end subject) b kind text = operand_depth (condition_end subject) kind text
-place_depth (expression_rest depth) b kind text = operand_depth (expression_rest depth) kind text
-place_depth (text_argument last begun depth) b kind text = operand_depth (text_argument last begun depth) kind text
-place_depth between_arguments b kind text = operand_depth between_arguments kind text
-place_depth operands b kind text = operand_depth operands kind text
+module _ (dialect : Dialect) where
+  place_depth : (p : Place) (b : Before) (kind : TokenKind) (text : List ℕ) → open_brackets (place_after dialect (record { place = p; before = b }) kind text) ≤ open_brackets p + 1
+  place_depth statement b kind text = deep_if (is_name kind) (first_name (operator_of dialect text)) operands 1 (omega arith) (omega arith)
+  place_depth (first_name operator) b kind text = deep_if (is_mark 58 kind) behind_label _ 1 (omega arith) (behind_operator operator kind text)
+  place_depth behind_label b kind text =
+      deep_if (is_name kind) (operand_place (operator_of dialect text)) _ 1 (omega (arith, operator_depth (operator_of dialect text)))
+      (deep_if (is_mark 58 kind && is_colon b) behind_label operands 1 (omega arith) (omega arith))
+  place_depth text_piece b kind text = operand_depth text_piece kind text
+  place_depth (bracketed_piece depth) b kind text = operand_depth (bracketed_piece depth) kind text
+  place_depth condition_name b kind text = operand_depth condition_name kind text
+  place_depth (condition_end subject) b kind text = operand_depth (condition_end subject) kind text
+  place_depth (expression_rest depth) b kind text = operand_depth (expression_rest depth) kind text
+  place_depth (text_argument last begun depth) b kind text = operand_depth (text_argument last begun depth) kind text
+  place_depth between_arguments b kind text = operand_depth between_arguments kind text
+  place_depth operands b kind text = operand_depth operands kind text
 
-pub depth_after : (c next : Context) (kind : TokenKind) (text : List ℕ) → next ≡ context_after c kind text → open_brackets next.place ≤ open_brackets c.place + 1
-depth_after c next kind text e = omega (arith, ap (λ (x : Context). open_brackets x.place) e, place_depth c.place c.before kind text)
+  pub depth_after : (c next : Context) (kind : TokenKind) (text : List ℕ) → next ≡ context_after dialect c kind text → open_brackets next.place ≤ open_brackets c.place + 1
+  depth_after c next kind text e = omega (arith, ap (λ (x : Context). open_brackets x.place) e, place_depth c.place c.before kind text)
 
 blank_depth : (p : Place) (b : Before) → open_brackets (context_after_blank (record { place = p; before = b })).place ≤ open_brackets p
 blank_depth statement b = omega arith

@@ -3,11 +3,12 @@ use Rattle.std.proofs.Common.{◌≡◌, ◌≢◌, ◌<◌, ◌≤◌, ℕ, ◌
 use Rattle.std.specs.Prelude.{slice_get, ◌⊎◌}
 use Rattle.std.proofs.lemmas.List.{drop_all, length-drop}
 use Rattle.std.specs.Int.{w64, cast_signed}
+use Rattle.vax_dialect.specs.declared.Dialect.{Dialect}
 use Rattle.vax_lex.specs.Characters.{canonical_name}
 use Rattle.vax_lex.specs.Tokens.{token_text}
 use Rattle.vax_lex.specs.Values.{Operation, characters_value, mask_bit, Sense, combined, minus_of, complement_of, named}
-use Rattle.vax_lex.specs.Grammar.{Symbol, number, name, characters, mark, characters_in, symbol, symbol_of, symbols_of, is_that_mark, operator_in, operator_mark, names_then, term_then, joined_then, Term, constant, named_by, quoted, mask, plus, minus, complement, bracketed, Joined, finish, joined, with_bit, mask_outcome, mask_value, term_value, joined_value, Expression, spelling, value_of, Evaluates}
-use Rattle.vax_lex.specs.Reading.{NoTerm, ReadsTerm, NotOperator, ReadsExpression, ReadsNames, ReadsQuoted, ReadsMask}
+use Rattle.vax_lex.specs.Grammar.{Symbol, number, name, characters, mark, characters_in, symbol, symbol_of, symbols_of, is_that_mark, operator_in, operator_mark, names_then, term_then, joined_then, Term, constant, named_by, quoted, mask, single_mask, plus, minus, complement, bracketed, Joined, finish, joined, with_bit, mask_outcome, mask_value, single_mask_value, term_value, joined_value, Expression, spelling, value_of, Evaluates}
+use Rattle.vax_lex.specs.Reading.{NoTerm, ReadsTerm, NotOperator, ReadsExpression, ReadsNames, ReadsQuoted, ReadsMask, ReadsSingleMask}
 use Rattle.vax_lex.specs.declared.expression.Read.{Read}
 use Rattle.vax_lex.specs.declared.token.Token.{Token}
 use Rattle.vax_lex.specs.declared.token.TokenKind.{TokenKind}
@@ -34,6 +35,7 @@ some_symbol (constant n) rest e = cc
 some_symbol (named_by s) rest e = cc
 some_symbol (quoted text) rest e = cc
 some_symbol (mask names) rest e = cc
+some_symbol (single_mask register) rest e = cc
 some_symbol (plus t) rest e = cc
 some_symbol (minus t) rest e = cc
 some_symbol (complement t) rest e = cc
@@ -57,15 +59,18 @@ quoted_only (quoted text) rest symbols e h = h text rest cc
 quoted_only _ rest symbols e h = absurd (omega (arith, ap first_code e, ap letter_code e))
 
 mask_only : (t : Term) (rest symbols : List Symbol) → term_then t rest ≡ mark 94 ∷ name (77 ∷ []) ∷ symbols
-    → ((names : List (List ℕ)) (more : List Symbol) → mark 60 ∷ names_then names (mark 62 ∷ more) ≡ symbols → ⊥) → ⊥
-mask_only (mask names) rest symbols e h = h names rest cc
-mask_only _ rest symbols e h = absurd (omega (arith, ap first_code e, ap letter_code e))
+    → ((names : List (List ℕ)) (more : List Symbol) → mark 60 ∷ names_then names (mark 62 ∷ more) ≡ symbols → ⊥)
+    → ((register : List ℕ) (more : List Symbol) → name register ∷ more ≡ symbols → ⊥) → ⊥
+mask_only (mask names) rest symbols e h i = h names rest cc
+mask_only (single_mask register) rest symbols e h i = i register rest cc
+mask_only _ rest symbols e h i = absurd (omega (arith, ap first_code e, ap letter_code e))
 
 -- behind a `^` stands one of three letters
 caret_only : (t : Term) (rest symbols : List Symbol) → term_then t rest ≡ mark 94 ∷ symbols
     → ((s : List ℕ) (more : List Symbol) → (symbols ≡ name s ∷ more) × ((s ≡ 67 ∷ []) ⊎ ((s ≡ 65 ∷ []) ⊎ (s ≡ 77 ∷ []))) → ⊥) → ⊥
 caret_only (quoted text) rest symbols e h = h (65 ∷ []) (characters text ∷ rest) (cc, inr (inl refl))
 caret_only (mask names) rest symbols e h = h (77 ∷ []) (mark 60 ∷ names_then names (mark 62 ∷ rest)) (cc, inr (inr refl))
+caret_only (single_mask register) rest symbols e h = h (77 ∷ []) (name register ∷ rest) (cc, inr (inr refl))
 caret_only (complement t) rest symbols e h = h (67 ∷ []) (term_then t rest) (cc, inl refl)
 caret_only _ rest symbols e h = absurd (omega (arith, ap first_code e))
 
@@ -90,6 +95,7 @@ text_first text (constant n) rest symbols e = cc
 text_first text (named_by s) rest symbols e = cc
 text_first text (quoted x) rest symbols e = cc
 text_first text (mask names) rest symbols e = cc
+text_first text (single_mask register) rest symbols e = cc
 text_first text (plus t) rest symbols e = cc
 text_first text (minus t) rest symbols e = cc
 text_first text (complement t) rest symbols e = cc
@@ -100,6 +106,7 @@ other_mark m p q r s (constant n) rest symbols e = cc
 other_mark m p q r s (named_by x) rest symbols e = cc
 other_mark m p q r s (quoted x) rest symbols e = s (sym (ap first_code e))
 other_mark m p q r s (mask names) rest symbols e = s (sym (ap first_code e))
+other_mark m p q r s (single_mask register) rest symbols e = s (sym (ap first_code e))
 other_mark m p q r s (plus t) rest symbols e = p (sym (ap first_code e))
 other_mark m p q r s (minus t) rest symbols e = q (sym (ap first_code e))
 other_mark m p q r s (complement t) rest symbols e = s (sym (ap first_code e))
@@ -230,6 +237,21 @@ module _ (line : List ℕ) (tokens : List Token) where
   pub no_mask : (at : ℕ) → is_that_mark 60 (slice_get tokens at) ≡ false → ReadsMask all at None
   no_mask at h names rest e = no_mark line tokens at 60 h (names_then names (mark 62 ∷ rest)) (sym e)
 
+  -- ---- `^M` without brackets
+
+  pub single_mask_some : (d : Dialect) (at : ℕ) (s : List ℕ) (answer : Result Value ExprError) → Stands line tokens at (name s) → answer ≡ single_mask_value d s
+      → ReadsSingleMask d all at (Some (record { answer = answer; end = at + 1 }))
+  single_mask_some d at s answer a v = (omega arith, omega (arith, length-symbols line tokens, a.room), s, sym a.is, v)
+
+  pub no_single_mask_nothing : (d : Dialect) (at : ℕ) → slice_get tokens at ≡ None → ReadsSingleMask d all at None
+  no_single_mask_nothing d at h register rest e = let nothing : drop at all ≡ [] = nothing_stands line tokens at h in absurd cc
+
+  pub no_single_mask_kind : (d : Dialect) (at : ℕ) (t : Token) → slice_get tokens at ≡ Some t → t.kind ≢ Name → ReadsSingleMask d all at None
+  no_single_mask_kind d at t h k register rest e =
+      let there : drop at all ≡ symbol_of line t ∷ drop (at + 1) all = (token_stands line tokens at t h).is in
+      let same : symbol_of line t ≡ name register = cc in
+      other_code t.kind (token_text line t) register k same
+
   -- ---- terms
 
   module _ (names : Sense) where
@@ -272,10 +294,18 @@ module _ (line : List ℕ) (tokens : List Token) where
     quoted_read at (Some r) a b h =
         (omega (arith, h.0), h.1, record { term = quoted h.2; spells = ap (λ (y : List Symbol). mark 94 ∷ name (65 ∷ []) ∷ y) h.3 ∙ sym (two at (mark 94) (name (65 ∷ [])) a b); gives = h.4 })
 
-    pub mask_read : (at : ℕ) (r : Option Read) → Stands line tokens at (mark 94) → Stands line tokens (at + 1) (name (77 ∷ [])) → ReadsMask all (at + 2) r → ReadsTerm names all at r
-    mask_read at None a b h = λ t rest e. mask_only t rest (drop (at + 2) all) (e ∙ two at (mark 94) (name (77 ∷ [])) a b) h
-    mask_read at (Some r) a b h =
+    pub mask_read : (at : ℕ) (r : Option Read) → Stands line tokens at (mark 94) → Stands line tokens (at + 1) (name (77 ∷ [])) → Stands line tokens (at + 2) (mark 60) → ReadsMask all (at + 2) r → ReadsTerm names all at r
+    mask_read at None a b c h = λ t rest e. mask_only t rest (drop (at + 2) all) (e ∙ two at (mark 94) (name (77 ∷ [])) a b) h
+        (λ register more i. let here : drop (at + 2) all ≡ mark 60 ∷ drop (at + 2 + 1) all = c.is in absurd cc)
+    mask_read at (Some r) a b c h =
         (omega (arith, h.0), h.1, record { term = mask h.2; spells = ap (λ (y : List Symbol). mark 94 ∷ name (77 ∷ []) ∷ y) h.3 ∙ sym (two at (mark 94) (name (77 ∷ [])) a b); gives = h.4 })
+
+    pub single_mask_read : (at : ℕ) (r : Option Read) → Stands line tokens at (mark 94) → Stands line tokens (at + 1) (name (77 ∷ [])) → is_that_mark 60 (slice_get tokens (at + 2)) ≡ false
+        → ReadsSingleMask names.dialect all (at + 2) r → ReadsTerm names all at r
+    single_mask_read at None a b c h = λ t rest e. mask_only t rest (drop (at + 2) all) (e ∙ two at (mark 94) (name (77 ∷ [])) a b)
+        (λ registers more i. no_mark line tokens (at + 2) 60 c (names_then registers (mark 62 ∷ more)) (sym i)) h
+    single_mask_read at (Some r) a b c h =
+        (omega (arith, h.0), h.1, record { term = single_mask h.2; spells = ap (λ (y : List Symbol). mark 94 ∷ name (77 ∷ []) ∷ y) h.3 ∙ sym (two at (mark 94) (name (77 ∷ [])) a b); gives = h.4 })
 
     -- a `^` with nothing of this behind it
     pub no_letter : (at : ℕ) → Stands line tokens at (mark 94) → slice_get tokens (at + 1) ≡ None → ReadsTerm names all at None

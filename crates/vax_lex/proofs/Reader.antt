@@ -4,7 +4,7 @@ use Rattle.std.specs.Prelude.{◌==◌, codes}
 use Rattle.std.specs.Str.{bytes_eq}
 use Rattle.std.proofs.lemmas.Bool.Decides.{nat_tests}
 use Rattle.std.proofs.lemmas.Slice.Eq.{bytes_eq-Decides}
-use Rattle.vax_lex.specs.Grammar.{Symbol, number, name, characters, mark, Term, constant, named_by, quoted, mask, plus, minus, complement, bracketed, Joined, finish, joined, operator_mark, operator_of_mark, names_then, term_then, joined_then, Expression, spelling, value_of, Evaluates}
+use Rattle.vax_lex.specs.Grammar.{Symbol, number, name, characters, mark, Term, constant, named_by, quoted, mask, single_mask, plus, minus, complement, bracketed, Joined, finish, joined, operator_mark, operator_of_mark, names_then, term_then, joined_then, Expression, spelling, value_of, Evaluates}
 use Rattle.vax_lex.specs.Reading.{NotOperator}
 use Rattle.vax_lex.specs.Values.{Operation, Sense}
 use Rattle.vax_lex.specs.Expressions.{TermRead, JoinedRead, NamesRead, signed, closed, closed_by, with_name, mask_names, mask_of, mask_list, mask_in, quoted_in, operated, join, behind, joining, joined_by, term_in, joined_in, whole_value, value_behind, value_at}
@@ -67,7 +67,7 @@ mask_in_is : (symbols : List Symbol) → TermIs (mark 94 ∷ name (77 ∷ []) �
 mask_in_is (mark m ∷ rest) = term_if _ (m == 60) _ None (λ e. let P : ℕ → Type 0 = λ k. TermIs (mark 94 ∷ name (77 ∷ []) ∷ mark k ∷ rest) (mask_list rest) in subst P (sym (same_code m 60 e)) (mask_list_is rest)) (λ _. tt)
 mask_in_is [] = tt
 mask_in_is (number n ∷ rest) = tt
-mask_in_is (name s ∷ rest) = tt
+mask_in_is (name s ∷ rest) = refl
 mask_in_is (characters s ∷ rest) = tt
 
 quoted_in_is : (symbols : List Symbol) → TermIs (mark 94 ∷ name (65 ∷ []) ∷ symbols) (quoted_in symbols)
@@ -173,6 +173,7 @@ mutual
   term_longer (named_by s) rest = omega arith
   term_longer (quoted text) rest = omega arith
   term_longer (mask names) rest = omega (arith, names_longer names (mark 62 ∷ rest))
+  term_longer (single_mask register) rest = omega arith
   term_longer (plus t) rest = omega (arith, term_longer t rest)
   term_longer (minus t) rest = omega (arith, term_longer t rest)
   term_longer (complement t) rest = omega (arith, term_longer t rest)
@@ -204,6 +205,7 @@ mutual
   term_read (suc n) (named_by s) rest h = refl
   term_read (suc n) (quoted text) rest h = refl
   term_read (suc n) (mask names) rest h = mask_read names rest
+  term_read (suc n) (single_mask register) rest h = refl
   term_read (suc n) (plus t) rest h = ap (signed plus) (term_read n t rest (omega arith))
   term_read (suc n) (minus t) rest h = ap (signed minus) (term_read n t rest (omega arith))
   term_read (suc n) (complement t) rest h = ap (signed complement) (term_read n t rest (omega arith))

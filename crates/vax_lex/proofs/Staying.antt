@@ -5,7 +5,7 @@ use Rattle.std.proofs.lemmas.Bool.Decides.{Decides-int_eq}
 use Rattle.std.specs.Prelude.{◌&&◌, ◌||◌, ◌≢◌, ok_or, if◌then◌else◌}
 use Rattle.std.specs.Ordering.{int_eq}
 use Rattle.vax_lex.specs.Certain.{Keeps, HasNone, with_values, is_zero, is_division, begins_with_zero, divides_by_zero, certain_by}
-use Rattle.vax_lex.specs.Grammar.{Symbol, mark, Term, constant, named_by, quoted, mask, plus, minus, complement, bracketed, Joined, finish, joined, operator_mark, names_then, term_then, joined_then, term_value, joined_value, Expression, spelling, value_of, Evaluates}
+use Rattle.vax_lex.specs.Grammar.{Symbol, mark, Term, constant, named_by, quoted, mask, single_mask, plus, minus, complement, bracketed, Joined, finish, joined, operator_mark, names_then, term_then, joined_then, term_value, joined_value, Expression, spelling, value_of, Evaluates}
 use Rattle.vax_lex.specs.Values.{Operation, addition, subtraction, multiplication, division, arithmetic_shift, logical_and, inclusive_or, exclusive_or, Sense, apply, product_of, quotient, combine, combined, complement_of, complemented, fitted, fitted_value, minus_of, negated, first_error, refuses_left, refuses_right}
 use Rattle.vax_dialect.specs.declared.Dialect.{Dialect}
 use Rattle.vax_lex.specs.declared.value.Value.{Value}
@@ -233,6 +233,7 @@ mutual
   term_later names more h (named_by s) = found_later (names.value s) (more s) (h s)
   term_later names more h (quoted text) = later_itself (term_value names (quoted text))
   term_later names more h (mask registers) = later_itself (term_value names (mask registers))
+  term_later names more h (single_mask register) = later_itself (term_value names (single_mask register))
   term_later names more h (plus t) = term_later names more h t
   term_later names more h (minus t) = minus_later names.dialect (term_value names t) (term_value (with_values names more) t) (term_later names more h t)
   term_later names more h (complement t) = complement_later names.dialect (term_value names t) (term_value (with_values names more) t) (term_later names more h t)
@@ -293,6 +294,7 @@ mutual
   term_passed names more h (named_by s) rest v e = refl
   term_passed names more h (quoted text) rest v e = refl
   term_passed names more h (mask registers) rest v e = mask_passed names registers rest
+  term_passed names more h (single_mask register) rest v e = refl
   term_passed names more h (plus t) rest v e = term_passed names more h t rest v e
   term_passed names more h (minus t) rest v e = let u = minus_term names.dialect (term_value (with_values names more) t) v e in term_passed names more h t rest u.0 u.1
   term_passed names more h (complement t) rest v e = let u = complement_term names.dialect (term_value (with_values names more) t) v e in term_passed names more h t rest u.0 u.1

@@ -1,6 +1,6 @@
 -- Symbols spell one term at most, and its length is seen from its front.
 use Rattle.std.proofs.Common.{◌≡◌, ℕ, List, [], ◌∷◌, refl, ap, arith, sym}
-use Rattle.vax_lex.specs.Grammar.{Symbol, number, name, characters, mark, Term, constant, named_by, quoted, mask, plus, minus, complement, bracketed, Joined, finish, joined, operator_mark, names_then, term_then, joined_then}
+use Rattle.vax_lex.specs.Grammar.{Symbol, number, name, characters, mark, Term, constant, named_by, quoted, mask, single_mask, plus, minus, complement, bracketed, Joined, finish, joined, operator_mark, names_then, term_then, joined_then}
 use Rattle.vax_lex.specs.Reading.{NotOperator}
 use Rattle.vax_lex.specs.Values.{Operation, addition, subtraction, multiplication, division, arithmetic_shift, logical_and, inclusive_or, exclusive_or}
 
@@ -19,6 +19,10 @@ letter_code _ = 1000
 abbrev pub second_code : List Symbol → ℕ
 second_code (first ∷ mark m ∷ rest) = m
 second_code _ = 1000
+
+abbrev pub third_code : List Symbol → ℕ
+third_code (first ∷ second ∷ mark m ∷ rest) = m
+third_code _ = 1000
 
 -- of numbers of operators
 operator_code : (a b : Operation) → operator_mark a ≡ operator_mark b → a ≡ b
@@ -67,6 +71,9 @@ mutual
       let rest : names_then a (mark 62 ∷ r) ≡ names_then b (mark 62 ∷ s) = cc in
       let same = unique_names a b r s rest in
       (ap mask same.0, same.1)
+  unique_term (single_mask a) (single_mask b) r s e = (cc, cc)
+  unique_term (mask a) (single_mask b) r s e = absurd (omega (arith, ap third_code e))
+  unique_term (single_mask a) (mask b) r s e = absurd (omega (arith, ap third_code e))
   unique_term (plus t) (plus u) r s e =
       let same = unique_term t u r s cc in (ap plus same.0, same.1)
   unique_term (minus t) (minus u) r s e =

@@ -1,8 +1,9 @@
--- Where a piece of text is due: among the operands of `.ASCII`, `.ASCIC` and `.ASCIZ`, where one of these is the
+-- Where a piece of text is due: among the operands of `.ASCII`, `.ASCIC`, `.ASCIZ` and `.ASCID`, where one of these is the
 -- operator of the line, or of the statement of an `.IIF` (VAX MACRO and Instruction Set Reference Manual, "Source
 -- statements", and the directives `.ASCII` and `.IIF`). Each relation says that the whole is something of this sort and
 -- what stands before it, the nearest part first.
 use Rattle.std.specs.Prelude.{◌≡◌, ℕ, Bool, true, false, not, ◌&&◌, ◌||◌, ◌==◌, List, [], ◌∷◌, codes}
+use Rattle.vax_dialect.specs.declared.Dialect.{Dialect}
 use Rattle.vax_lex.specs.Characters.{spells}
 use Rattle.vax_lex.specs.Statements.{is_text_directive, compares_texts, tests_text}
 use Rattle.vax_lex.specs.Parts.{Part, space, word, sign, quotation, numeric}
@@ -126,7 +127,7 @@ mutual
 
 -- A piece of text is due, and may begin with this byte. A colon right behind the first name of a statement makes that
 -- name a label, so no text begins with one there.
-pub data PieceDue (byte : ℕ) : List Part → Type 0 where
-  behind_labelled : {before whole : List Part} (name : List ℕ) → Labelled before → is_text_directive name ≡ true → Pieces (word name ∷ before) whole → PieceDue byte whole
-  first_piece : {before whole : List Part} (name : List ℕ) → StatementDue before → is_text_directive name ≡ true → Blanks (word name ∷ before) whole → (byte == 58) ≡ false → PieceDue byte whole
-  later_piece : {before blanks first whole : List Part} (name : List ℕ) → StatementDue before → is_text_directive name ≡ true → Blanks (word name ∷ before) blanks → Piece blanks first → Pieces first whole → PieceDue byte whole
+pub data PieceDue (d : Dialect) (byte : ℕ) : List Part → Type 0 where
+  behind_labelled : {before whole : List Part} (name : List ℕ) → Labelled before → is_text_directive d name ≡ true → Pieces (word name ∷ before) whole → PieceDue d byte whole
+  first_piece : {before whole : List Part} (name : List ℕ) → StatementDue before → is_text_directive d name ≡ true → Blanks (word name ∷ before) whole → (byte == 58) ≡ false → PieceDue d byte whole
+  later_piece : {before blanks first whole : List Part} (name : List ℕ) → StatementDue before → is_text_directive d name ≡ true → Blanks (word name ∷ before) blanks → Piece blanks first → Pieces first whole → PieceDue d byte whole

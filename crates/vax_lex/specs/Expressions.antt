@@ -1,7 +1,7 @@
 -- The value of symbols as a function of them: which expression they spell, read from the left, and its value.
 use Rattle.std.specs.Prelude.{ℕ, zero, suc, List, [], ◌∷◌, length, Option, Some, None, Result, Err, ◌==◌, if◌then◌else◌, codes}
 use Rattle.std.specs.Str.{bytes_eq}
-use Rattle.vax_lex.specs.Grammar.{Symbol, number, name, characters, mark, Term, constant, named_by, quoted, mask, plus, minus, complement, bracketed, Joined, finish, joined, operator_of_mark, value_of}
+use Rattle.vax_lex.specs.Grammar.{Symbol, number, name, characters, mark, Term, constant, named_by, quoted, mask, single_mask, plus, minus, complement, bracketed, Joined, finish, joined, operator_of_mark, value_of}
 use Rattle.vax_lex.specs.Values.{Operation, Sense}
 use Rattle.vax_lex.specs.declared.value.Value.{Value}
 use Rattle.vax_lex.specs.declared.value.ExprError.{ExprError}
@@ -56,6 +56,7 @@ mask_list symbols = mask_of (mask_names symbols)
 
 abbrev pub mask_in : List Symbol → Option TermRead
 mask_in (mark m ∷ rest) = if m == 60 then mask_list rest else None
+mask_in (name s ∷ rest) = Some (record { term = single_mask s; rest = rest })
 mask_in _ = None
 
 abbrev pub quoted_in : List Symbol → Option TermRead

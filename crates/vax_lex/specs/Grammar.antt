@@ -2,6 +2,8 @@
 -- expressions", "Unary operators" and "Operation operators").
 use Rattle.std.specs.Prelude.{◌≡◌, ◌≢◌, ℕ, Bool, false, ◌-◌, ◌^◌, ◌⊎◌, List, [], ◌∷◌, length, map, take, drop, Option, Some, None, Result, Ok, Err, bit_or, pos, ◌==◌, if◌then◌else◌}
 use Rattle.std.specs.Int.{w64, cast_signed}
+use Rattle.vax_dialect.specs.Differences.{has_single_masks}
+use Rattle.vax_dialect.specs.declared.Dialect.{Dialect}
 use Rattle.vax_lex.specs.Characters.{canonical_name}
 use Rattle.vax_lex.specs.Tokens.{token_text}
 use Rattle.vax_lex.specs.Statements.{is_mark}
@@ -38,13 +40,14 @@ abbrev pub symbols_of : List ℕ → List Token → List Symbol
 symbols_of line tokens = map (symbol_of line) tokens
 
 -- An expression is a term, and more terms joined to it by operators. A term is a number, a name, `^A` and a text,
--- `^M` and names of registers in brackets, a sign before a term, or an expression in brackets.
+-- `^M` and names of registers in brackets or one without, a sign before a term, or an expression in brackets.
 mutual
   pub data Term : Type 0 where
     constant : ℕ → Term
     named_by : List ℕ → Term
     quoted : List ℕ → Term
     mask : List (List ℕ) → Term
+    single_mask : List ℕ → Term
     plus : Term → Term
     minus : Term → Term
     complement : Term → Term
@@ -78,6 +81,7 @@ abbrev mutual
   term_then (named_by s) rest = name s ∷ rest
   term_then (quoted text) rest = mark 94 ∷ name (65 ∷ []) ∷ characters text ∷ rest
   term_then (mask names) rest = mark 94 ∷ name (77 ∷ []) ∷ mark 60 ∷ names_then names (mark 62 ∷ rest)
+  term_then (single_mask register) rest = mark 94 ∷ name (77 ∷ []) ∷ name register ∷ rest
   term_then (plus t) rest = mark 43 ∷ term_then t rest
   term_then (minus t) rest = mark 45 ∷ term_then t rest
   term_then (complement t) rest = mark 94 ∷ name (67 ∷ []) ∷ term_then t rest
@@ -104,6 +108,10 @@ mask_outcome None = Err Form
 abbrev pub mask_value : List (List ℕ) → Result Value ExprError
 mask_value names = mask_outcome (mask_with (Some 0) names)
 
+-- the mask of one register without brackets, where the dialect has it
+abbrev pub single_mask_value : Dialect → List ℕ → Result Value ExprError
+single_mask_value d register = if has_single_masks d then mask_value (register ∷ []) else Err Form
+
 -- The value of a term, and that of terms joined to one whose value is known: operators have equal rank, and the left
 -- one comes first.
 abbrev mutual
@@ -112,6 +120,7 @@ abbrev mutual
   term_value names (named_by s) = named names s
   term_value names (quoted text) = characters_value text
   term_value names (mask registers) = mask_value registers
+  term_value names (single_mask register) = single_mask_value names.dialect register
   term_value names (plus t) = term_value names t
   term_value names (minus t) = minus_of names.dialect (term_value names t)
   term_value names (complement t) = complement_of names.dialect (term_value names t)

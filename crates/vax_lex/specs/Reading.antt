@@ -1,6 +1,7 @@
 -- What is read of an expression from one of its symbols on.
 use Rattle.std.specs.Prelude.{◌≡◌, ℕ, ◌<◌, ◌≤◌, List, ◌∷◌, length, drop, Option, Some, None, Result}
-use Rattle.vax_lex.specs.Grammar.{Symbol, characters, mark, Term, Joined, operator_mark, term_then, joined_then, names_then, term_value, joined_value, mask_with, mask_outcome, mask_value}
+use Rattle.vax_dialect.specs.declared.Dialect.{Dialect}
+use Rattle.vax_lex.specs.Grammar.{Symbol, name, characters, mark, Term, Joined, operator_mark, term_then, joined_then, names_then, term_value, joined_value, mask_with, mask_outcome, mask_value, single_mask_value}
 use Rattle.vax_lex.specs.Values.{Operation, Sense, characters_value}
 use Rattle.vax_lex.specs.declared.value.Value.{Value}
 use Rattle.vax_lex.specs.declared.value.ExprError.{ExprError}
@@ -60,7 +61,12 @@ abbrev pub ReadsQuoted : List Symbol → ℕ → Option Read → Type 0
 ReadsQuoted all at None = (text : List ℕ) (rest : List Symbol) → characters text ∷ rest ≡ drop at all → ⊥
 ReadsQuoted all at (Some r) = (at < r.end) × (r.end ≤ length all) × (text : List ℕ) × (characters text ∷ drop r.end all ≡ drop at all) × (r.answer ≡ characters_value text)
 
--- the mask of `^M`
+-- the mask of `^M` and brackets
 abbrev pub ReadsMask : List Symbol → ℕ → Option Read → Type 0
 ReadsMask all at None = (names : List (List ℕ)) (rest : List Symbol) → mark 60 ∷ names_then names (mark 62 ∷ rest) ≡ drop at all → ⊥
 ReadsMask all at (Some r) = (at < r.end) × (r.end ≤ length all) × (names : List (List ℕ)) × (mark 60 ∷ names_then names (mark 62 ∷ drop r.end all) ≡ drop at all) × (r.answer ≡ mask_value names)
+
+-- the register of `^M` without brackets
+abbrev pub ReadsSingleMask : Dialect → List Symbol → ℕ → Option Read → Type 0
+ReadsSingleMask d all at None = (register : List ℕ) (rest : List Symbol) → name register ∷ rest ≡ drop at all → ⊥
+ReadsSingleMask d all at (Some r) = (at < r.end) × (r.end ≤ length all) × (register : List ℕ) × (name register ∷ drop r.end all ≡ drop at all) × (r.answer ≡ single_mask_value d register)

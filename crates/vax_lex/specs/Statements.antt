@@ -1,6 +1,8 @@
 -- The parts of a statement, as far as they decide where a quoted text may stand (VAX MACRO and Instruction Set
 -- Reference Manual, "Components of MACRO source statements" and the directives `.ASCII` and `.IIF`).
 use Rattle.std.specs.Prelude.{ℕ, zero, suc, ◌+◌, ◌-◌, Bool, true, false, not, ◌&&◌, ◌||◌, ◌==◌, nat_le, List, if◌then◌else◌, codes}
+use Rattle.vax_dialect.specs.Differences.{has_text_descriptors}
+use Rattle.vax_dialect.specs.declared.Dialect.{Dialect}
 use Rattle.vax_lex.specs.Characters.{is_delimiter, spells}
 use Rattle.vax_lex.specs.declared.token.TokenKind.{TokenKind}
 use Rattle.vax_lex.specs.declared.token.TokenKind.TheVariants.{Name, Number, Mark, Text}
@@ -60,13 +62,13 @@ pub record Context : Type 0 where
   pub place : Place
   pub before : Before
 
--- the directives whose operands are pieces of text
-abbrev pub is_text_directive : List ℕ → Bool
-is_text_directive name = spells (codes ".ASCII") name || spells (codes ".ASCIC") name || spells (codes ".ASCIZ") name
+-- the directives of a dialect whose operands are pieces of text
+abbrev pub is_text_directive : Dialect → List ℕ → Bool
+is_text_directive d name = spells (codes ".ASCII") name || spells (codes ".ASCIC") name || spells (codes ".ASCIZ") name || (spells (codes ".ASCID") name && has_text_descriptors d)
 
-abbrev pub operator_of : List ℕ → Operator
-operator_of name =
-    if is_text_directive name then text_directive
+abbrev pub operator_of : Dialect → List ℕ → Operator
+operator_of d name =
+    if is_text_directive d name then text_directive
     else (if spells (codes ".IIF") name then immediate_if
     else other_operator)
 
@@ -175,11 +177,11 @@ operand_after _ kind text = operands
 
 -- What is due after a token: a name before a colon is a label, and the next name is the operator, else the first
 -- name is. A second colon, right behind the first, makes the label global.
-abbrev pub place_after : Context → TokenKind → List ℕ → Place
-place_after c kind text = elim c.place [
-  | statement ↦ if is_name kind then first_name (operator_of text) else operands
+abbrev pub place_after : Dialect → Context → TokenKind → List ℕ → Place
+place_after d c kind text = elim c.place [
+  | statement ↦ if is_name kind then first_name (operator_of d text) else operands
   | first_name operator ↦ if is_mark 58 kind then behind_label else operand_after (operand_place operator) kind text
-  | behind_label ↦ if is_name kind then operand_place (operator_of text) else (if is_mark 58 kind && is_colon c.before then behind_label else operands)
+  | behind_label ↦ if is_name kind then operand_place (operator_of d text) else (if is_mark 58 kind && is_colon c.before then behind_label else operands)
   | place ↦ operand_after place kind text
 ]
 
@@ -199,8 +201,8 @@ before_after c (Number n) text = nothing_special
 before_after c Text text = nothing_special
 
 -- The context after a token of this kind and text.
-abbrev pub context_after : Context → TokenKind → List ℕ → Context
-context_after c kind text = record { place = place_after c kind text; before = before_after c kind text }
+abbrev pub context_after : Dialect → Context → TokenKind → List ℕ → Context
+context_after d c kind text = record { place = place_after d c kind text; before = before_after c kind text }
 
 -- A blank parts a name from a `^`, and a colon from a colon, but not `^A` from its text. It ends the first of two texts, and
 -- parts a condition's name from its argument, so that no comma behind it does.

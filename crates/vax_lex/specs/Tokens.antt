@@ -3,6 +3,7 @@
 use Rattle.std.specs.Prelude.{◌≡◌, ◌⊎◌, ℕ, zero, suc, ◌+◌, ◌-◌, ◌^◌, ◌<◌, ◌≤◌, min, Bool, true, false, ◌&&◌, ◌||◌, ◌==◌, nat_lt, nat_le, List, [], ◌∷◌, length, slice_index, Any, take, drop, position, Option, Some, None, Result, Ok, Err, Vec, if◌then◌else◌}
 use Rattle.std.specs.List.{prefix_len}
 use Rattle.std.specs.Char.{is_ascii_graphic, to_ascii_uppercase}
+use Rattle.vax_dialect.specs.declared.Dialect.{Dialect}
 use Rattle.vax_lex.specs.Characters.{is_blank, is_digit, is_name_character, radix_of, number_of, canonical_name}
 use Rattle.vax_lex.specs.Statements.{Context, text_due, is_caret, is_size, context_after, context_after_blank, line_start}
 use Rattle.vax_lex.specs.declared.token.TokenKind.{TokenKind}
@@ -100,22 +101,22 @@ piece kind at n = record { kind = kind; start = at; end = at + n }
 abbrev pub stray_kind : ℕ → TokenKind
 stray_kind b = if b == 94 then Number 0 else Mark b
 
--- The pieces of a line from byte `at` on, where the first bytes to come may still be those of the piece before. A number
+-- The pieces of a line of a dialect from byte `at` on, where the first bytes to come may still be those of the piece before. A number
 -- above 64 bits is one piece, and a byte where no token begins is one by itself.
-unfoldable pub pieces_from : Context → ℕ → ℕ → List ℕ → List Piece
-pieces_from c at inside [] = []
-pieces_from c at (suc inside) (b ∷ bytes) = pieces_from c (at + 1) inside bytes
-pieces_from c at zero (b ∷ bytes) = elim (head_of c (b ∷ bytes)) [
-  | blank ↦ pieces_from (context_after_blank c) (at + 1) zero bytes
+unfoldable pub pieces_from : Dialect → Context → ℕ → ℕ → List ℕ → List Piece
+pieces_from d c at inside [] = []
+pieces_from d c at (suc inside) (b ∷ bytes) = pieces_from d c (at + 1) inside bytes
+pieces_from d c at zero (b ∷ bytes) = elim (head_of c (b ∷ bytes)) [
+  | blank ↦ pieces_from d (context_after_blank c) (at + 1) zero bytes
   | no_more ↦ []
-  | begins kind n ↦ piece (kinds.Token kind) at n ∷ pieces_from (context_after c kind (take n (b ∷ bytes))) (at + 1) (n - 1) bytes
-  | too_wide n ↦ piece kinds.Wide at n ∷ pieces_from (context_after c (Number 0) (take n (b ∷ bytes))) (at + 1) (n - 1) bytes
-  | no_token ↦ piece kinds.Bad at 1 ∷ pieces_from (context_after c (stray_kind b) (b ∷ [])) (at + 1) zero bytes
+  | begins kind n ↦ piece (kinds.Token kind) at n ∷ pieces_from d (context_after d c kind (take n (b ∷ bytes))) (at + 1) (n - 1) bytes
+  | too_wide n ↦ piece kinds.Wide at n ∷ pieces_from d (context_after d c (Number 0) (take n (b ∷ bytes))) (at + 1) (n - 1) bytes
+  | no_token ↦ piece kinds.Bad at 1 ∷ pieces_from d (context_after d c (stray_kind b) (b ∷ [])) (at + 1) zero bytes
 ]
 
 -- The pieces of a line.
-unfoldable pub pieces_of : List ℕ → List Piece
-pieces_of line = pieces_from line_start 0 zero line
+unfoldable pub pieces_of : Dialect → List ℕ → List Piece
+pieces_of d line = pieces_from d line_start 0 zero line
 
 -- A token, and what is to come.
 abbrev pub with_first : Token → Result (List Token) LexError → Result (List Token) LexError
@@ -133,8 +134,8 @@ tokens_in [] = Ok []
 tokens_in (p ∷ pieces) = with_piece p.kind p.start p.end (tokens_in pieces)
 
 -- The tokens of a line, or the first place where there is none.
-abbrev pub tokens_of : List ℕ → Result (List Token) LexError
-tokens_of line = tokens_in (pieces_of line)
+abbrev pub tokens_of : Dialect → List ℕ → Result (List Token) LexError
+tokens_of d line = tokens_in (pieces_of d line)
 
 -- What was answered is what the definition gives, unless memory was refused.
 abbrev pub Answers : {A : Type 0} → Result (Vec Token A) LexError → Result (List Token) LexError → Type 0

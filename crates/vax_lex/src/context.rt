@@ -1,17 +1,18 @@
 // What the tokens so far say of the next one.
 
 ghost use Rattle.std.specs.Prelude.{◌≡◌, ◌<◌, ◌+◌};
-ghost use Rattle.vax_lex.specs.Statements.{operator_of, operand_place, subject_of, argument_place, argument_after, expression_after, condition_after, operand_after, is_size_letter, place_after, before_after, context_after, context_after_blank, line_start, text_due, open_brackets};
+ghost use Rattle.vax_lex.specs.Statements.{is_text_directive, operator_of, operand_place, subject_of, argument_place, argument_after, expression_after, condition_after, operand_after, is_size_letter, place_after, before_after, context_after, context_after_blank, line_start, text_due, open_brackets};
 ghost use Rattle.vax_lex.specs.Words.{text_start};
 ghost use Rattle.vax_lex.specs.Views.{operator_view, subject_view, place_view, before_view, context_view};
 
 use crate::character::{is_delimiter, spells};
 use crate::token::TokenKind;
+use vax_dialect::Dialect;
 
 /// What an operator is to the scanner.
 #[derive(Clone, Copy, PartialEq, Eq)]
 pub(crate) enum Operator {
-    /// `.ASCII`, `.ASCIC` or `.ASCIZ`, whose operands are pieces of text.
+    /// `.ASCII`, `.ASCIC`, `.ASCIZ` or `.ASCID`, whose operands are pieces of text.
     Text,
     /// `.IIF`, behind whose condition a statement stands.
     Conditional,
@@ -84,11 +85,21 @@ pub(crate) struct Context {
     pub(crate) before: Before,
 }
 
-/// What the operator of this name is.
-fn operator_of(name: &[u8]) -> Operator
-    ensures { operator_view result ≡ operator_of name.now }
+/// Whether the operands of the directive of this name are pieces of text.
+fn is_text_directive(dialect: Dialect, name: &[u8]) -> bool
+    ensures { result ≡ is_text_directive dialect name.now }
 {
-    if spells(b".ASCII", name) || spells(b".ASCIC", name) || spells(b".ASCIZ", name) {
+    spells(b".ASCII", name)
+        || spells(b".ASCIC", name)
+        || spells(b".ASCIZ", name)
+        || spells(b".ASCID", name) && dialect.has_text_descriptors()
+}
+
+/// What the operator of this name is.
+fn operator_of(dialect: Dialect, name: &[u8]) -> Operator
+    ensures { operator_view result ≡ operator_of dialect name.now }
+{
+    if is_text_directive(dialect, name) {
         Operator::Text
     } else if spells(b".IIF", name) {
         Operator::Conditional
@@ -271,26 +282,26 @@ impl Context {
     }
 
     /// The context after a token.
-    pub(crate) fn after(self, kind: TokenKind, text: &[u8]) -> Context
+    pub(crate) fn after(self, dialect: Dialect, kind: TokenKind, text: &[u8]) -> Context
         requires { open_brackets (place_view self.place) < 4096 }
-        ensures { context_view result ≡ context_after (context_view self) kind text.now }
+        ensures { context_view result ≡ context_after dialect (context_view self) kind text.now }
     {
         Context {
-            place: self.place_after(kind, text),
+            place: self.place_after(dialect, kind, text),
             before: self.before_after(kind, text),
         }
     }
 
-    fn place_after(self, kind: TokenKind, text: &[u8]) -> Place
+    fn place_after(self, dialect: Dialect, kind: TokenKind, text: &[u8]) -> Place
         requires { open_brackets (place_view self.place) < 4096 }
-        ensures { place_view result ≡ place_after (context_view self) kind text.now }
+        ensures { place_view result ≡ place_after dialect (context_view self) kind text.now }
     {
         match (self.place, kind) {
-            (Place::Statement, TokenKind::Name) => Place::FirstName(operator_of(text)),
+            (Place::Statement, TokenKind::Name) => Place::FirstName(operator_of(dialect, text)),
             (Place::Statement, _) => Place::Operands,
             (Place::FirstName(_), TokenKind::Mark(b':')) => Place::AfterLabel,
             (Place::FirstName(operator), _) => operand_after(operand_place(operator), kind, text),
-            (Place::AfterLabel, TokenKind::Name) => operand_place(operator_of(text)),
+            (Place::AfterLabel, TokenKind::Name) => operand_place(operator_of(dialect, text)),
             (Place::AfterLabel, TokenKind::Mark(b':')) if self.before == Before::Colon =>
                 Place::AfterLabel,
             (Place::AfterLabel, _) => Place::Operands,

@@ -6,11 +6,11 @@ ghost use Rattle.std.specs.Bool.{OnTrue};
 ghost use Rattle.std.specs.Int.{cast_signed, w64};
 ghost use Rattle.vax_lex.specs.Characters.{canonical_name};
 ghost use Rattle.vax_lex.specs.Tokens.{IsTokenOf, token_text};
-ghost use Rattle.vax_lex.specs.Grammar.{Evaluates, characters_in, Expression, spelling, value_of, symbols_of, with_bit, mask_outcome, is_that_mark, operator_in, operator_of};
+ghost use Rattle.vax_lex.specs.Grammar.{Evaluates, characters_in, Expression, spelling, value_of, symbols_of, with_bit, mask_outcome, single_mask_value, is_that_mark, operator_in, operator_of};
 ghost use Rattle.vax_lex.specs.KeptNames.{kept_name};
 ghost use Rattle.vax_lex.specs.Expressions.{value_at};
 ghost use Rattle.vax_lex.specs.Statements.{is_mark};
-ghost use Rattle.vax_lex.specs.Reading.{ReadsMask, ReadsQuoted, ReadsTerm, ReadsExpression, ReadsNames};
+ghost use Rattle.vax_lex.specs.Reading.{ReadsMask, ReadsSingleMask, ReadsQuoted, ReadsTerm, ReadsExpression, ReadsNames};
 
 use crate::character::is_word;
 use crate::name::CanonicalName;
@@ -19,6 +19,7 @@ use crate::value::{
     Binary, ExprError, Names, Outcome, Value, characters_value, combined, complement_of, mask_bit,
     minus_of, named,
 };
+use vax_dialect::Dialect;
 
 /// What has been read: its value or error, and the place of the first token behind it.
 #[derive(Drop)]
@@ -167,7 +168,38 @@ fn names_from(line: &[u8], tokens: &[Token], at: usize, mask: Option<u16>) -> Op
     }
 }
 
-/// The mask behind `^M`.
+/// The value of the mask of one register without brackets.
+fn single_mask_value(dialect: Dialect, register: &[u8]) -> Outcome
+    ensures { result ≡ single_mask_value dialect register.now }
+{
+    if dialect.has_single_masks() {
+        mask_outcome(with_bit(Some(0), mask_bit(register)))
+    } else {
+        Err(ExprError::Form)
+    }
+}
+
+/// The register behind `^M`, where no bracket stands.
+fn single_mask_at(dialect: Dialect, line: &[u8], tokens: &[Token], at: usize) -> Option<Read>
+    requires { All (IsTokenOf line.now) tokens.now }
+    ensures { ReadsSingleMask dialect (symbols_of line.now tokens.now) at result }
+{
+    let Some(token) = token_at(tokens, at) else {
+        return None;
+    };
+    match token.kind {
+        TokenKind::Name => {
+            let name = name_of(line, token);
+            Some(Read {
+                answer: single_mask_value(dialect, name.as_bytes()),
+                end: at + 1,
+            })
+        }
+        _ => None,
+    }
+}
+
+/// The mask behind `^M` and in brackets.
 fn mask_at(line: &[u8], tokens: &[Token], at: usize) -> Option<Read>
     requires { All (IsTokenOf line.now) tokens.now }
     ensures { ReadsMask (symbols_of line.now tokens.now) at result }
@@ -228,7 +260,11 @@ fn operated<N: Names>(line: &[u8], tokens: &[Token], names: &N, at: usize) -> Op
     } else if is_word(name.as_bytes(), b"A") {
         quoted_at(line, tokens, at + 2)
     } else if is_word(name.as_bytes(), b"M") {
-        mask_at(line, tokens, at + 2)
+        if is_mark_at(tokens, at + 2, b'<') {
+            mask_at(line, tokens, at + 2)
+        } else {
+            single_mask_at(names.dialect(), line, tokens, at + 2)
+        }
     } else {
         None
     }
@@ -337,7 +373,7 @@ fn expression<N: Names>(line: &[u8], tokens: &[Token], names: &N, at: usize) -> 
 
 /// The value of the expression that tokens of a line spell.
 ///
-/// Its terms are numbers, names, `^A/text/`, `^M<R2,R3>`, terms behind `+`, `-` and `^C`, and expressions in `< >`.
+/// Its terms are numbers, names, `^A/text/`, `^M<R2,R3>`, `^MR2` where the dialect has it, terms behind `+`, `-` and `^C`, and expressions in `< >`.
 /// The operators `+ - * / @ & ! \` between terms have equal rank and apply from left to right; values have 64 bits
 /// and wrap, or as many as the dialect of the names says. A relocatable or external value may be added to an absolute one, an absolute one may be taken from it,
 /// and two places of one section may be subtracted. (VAX MACRO and Instruction Set Reference Manual, "Terms and

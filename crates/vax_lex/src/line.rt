@@ -1,6 +1,7 @@
 // The pieces and the tokens of a line.
 
 ghost use Rattle.std.specs.Prelude.{List, ◌≡◌, ◌≤◌, ◌+◌, ◌++◌, ◌∷◌, [], length, map, All, AllPairs, IfOk, OnOk};
+ghost use Rattle.vax_dialect.specs.declared.Dialect.TheVariants.{Vax};
 ghost use Rattle.vax_lex.specs.Tokens.{piece, pieces_of, tokens_in, tokens_of, Answers, IsPieceOf, IsTokenOf, PiecePrecedes, Precedes, Covers, piece_span, span_of};
 ghost use Rattle.vax_lex.specs.Written.{IsWritten, Scans};
 ghost use Rattle.vax_lex.specs.declared.token.Piece.{Piece};
@@ -9,6 +10,7 @@ use crate::context::Context;
 use crate::head::{Head, head_of, stray_kind};
 use crate::token::{LexError, Piece, PieceKind, Token, TokenKind};
 use std::alloc::{AllocError, Global};
+use vax_dialect::Dialect;
 
 /// Adds a piece of so many bytes.
 fn add(pieces: &mut Vec<Piece>, kind: PieceKind, at: usize, length: usize) -> Result<(), AllocError>
@@ -23,19 +25,20 @@ fn add(pieces: &mut Vec<Piece>, kind: PieceKind, at: usize, length: usize) -> Re
     Ok(())
 }
 
-/// The pieces of a text of at most 2,048 bytes, which has no line feed: its tokens, and what stands between them and is
+/// The pieces of a text of a dialect, of at most 2,048 bytes, which has no line feed: its tokens, and what stands between them and is
 /// no token. Two lines that are joined have so many bytes, before the comment between them is dropped.
 ///
 /// Blanks and the comment belong to no piece. A number above 64 bits is one piece, and so is a byte where no token
 /// begins, behind which the line goes on as behind a mark. So a line with a fault can be read for its other faults.
-pub fn pieces(alloc: Global, line: &[u8]) -> Result<Vec<Piece>, AllocError>
+pub fn pieces(alloc: Global, dialect: Dialect, line: &[u8]) -> Result<Vec<Piece>, AllocError>
     requires { length line.now ≤ 2048 }
     // The pieces are those of the definition.
-    ensures exact { IfOk result (λ v. v.items ≡ pieces_of line.now) }
+    ensures exact { IfOk result (λ v. v.items ≡ pieces_of dialect line.now) }
     // The line is written as these pieces in the language.
-    ensures written { IfOk result (λ v. IsWritten line.now v.items) }
+    ensures written { IfOk result (λ v. IsWritten dialect line.now v.items) }
     // It is written as no others.
-    ensures only { IfOk result (λ v. (ps : List Piece) → IsWritten line.now ps → ps ≡ v.items) }
+    ensures only { IfOk result (λ v. (ps : List Piece) → IsWritten dialect line.now ps
+        → ps ≡ v.items) }
     // Each piece lies within the line.
     ensures within { IfOk result (λ v. All (IsPieceOf line.now) v.items) }
     // No piece begins before one before it ends.
@@ -56,17 +59,17 @@ pub fn pieces(alloc: Global, line: &[u8]) -> Result<Vec<Piece>, AllocError>
             }
             Head::Begins(kind, length) => {
                 add(&mut pieces, PieceKind::Token(kind), at, length)?;
-                context = context.after(kind, &rest[..length]);
+                context = context.after(dialect, kind, &rest[..length]);
                 at += length;
             }
             Head::Wide(length) => {
                 add(&mut pieces, PieceKind::Wide, at, length)?;
-                context = context.after(TokenKind::Number(0), &rest[..length]);
+                context = context.after(dialect, TokenKind::Number(0), &rest[..length]);
                 at += length;
             }
             Head::Nothing => {
                 add(&mut pieces, PieceKind::Bad, at, 1)?;
-                context = context.after(stray_kind(rest[0]), &rest[..1]);
+                context = context.after(dialect, stray_kind(rest[0]), &rest[..1]);
                 at += 1;
             }
         }
@@ -94,7 +97,8 @@ fn tokens_in(alloc: Global, pieces: &[Piece]) -> Result<Vec<Token>, LexError>
     Ok(tokens)
 }
 
-/// The tokens of a line of at most 1,024 bytes, which has no line feed.
+/// The tokens of a line of the smaller dialect, or of an expression of either, of at most 1,024 bytes, which has no line
+/// feed.
 ///
 /// Blanks and the comment belong to no token; each token is the longest that begins at its place. The answer is
 /// the first error from the left: [`LexError::Token`] at a place where no token begins, or [`LexError::Wide`] at a
@@ -104,11 +108,11 @@ fn tokens_in(alloc: Global, pieces: &[Piece]) -> Result<Vec<Token>, LexError>
 pub fn scan(alloc: Global, line: &[u8]) -> Result<Vec<Token>, LexError>
     requires { length line.now ≤ 1024 }
     // The tokens or the error are those of the definition.
-    ensures exact { Answers result (tokens_of line.now) }
+    ensures exact { Answers result (tokens_of Vax line.now) }
     // They are those of the pieces that the line is written as in the language.
     ensures written { Scans line.now result }
     // No other pieces give anything else.
-    ensures only { (ps : List Piece) → IsWritten line.now ps → Answers result (tokens_in ps) }
+    ensures only { (ps : List Piece) → IsWritten Vax line.now ps → Answers result (tokens_in ps) }
     // Each token lies within the line.
     ensures within { IfOk result (λ v. All (IsTokenOf line.now) v.items) }
     // No token begins before one before it ends.
@@ -116,7 +120,7 @@ pub fn scan(alloc: Global, line: &[u8]) -> Result<Vec<Token>, LexError>
     // The tokens cover all but blanks and the comment.
     ensures covers { IfOk result (λ v. Covers line.now (map span_of v.items)) }
 {
-    let Ok(pieces) = pieces(alloc, line) else {
+    let Ok(pieces) = pieces(alloc, Dialect::Vax, line) else {
         return Err(LexError::NoMemory);
     };
     tokens_in(alloc, &pieces)

@@ -12,6 +12,7 @@ use crate::context::Context;
 use crate::head::{Head, stray_kind, word_of};
 use crate::token::{Span, TokenKind};
 use std::alloc::{AllocError, Global};
+use vax_dialect::Dialect;
 
 /// A word of a text: its length, whether it is a name, and the context behind it.
 #[derive(Clone, Copy)]
@@ -42,17 +43,17 @@ fn next_word(context: Context, bytes: &[u8]) -> Word
         Head::Begins(kind, length) => Word {
             length,
             is_name: matches!(kind, TokenKind::Name),
-            context: context.after(kind, &bytes[..length]),
+            context: context.after(Dialect::Vax, kind, &bytes[..length]),
         },
         Head::Wide(length) => Word {
             length,
             is_name: false,
-            context: context.after(TokenKind::Number(0), &bytes[..length]),
+            context: context.after(Dialect::Vax, TokenKind::Number(0), &bytes[..length]),
         },
         Head::End | Head::Nothing => Word {
             length: 1,
             is_name: false,
-            context: context.after(stray_kind(bytes[0]), &bytes[..1]),
+            context: context.after(Dialect::Vax, stray_kind(bytes[0]), &bytes[..1]),
         },
     }
 }

@@ -49,7 +49,7 @@ outcome line place (Label at rest) = Says (record { number = line.number; text =
 outcome line place (Fails kind) = Faults line.number place kind
 
 unfoldable pub line_step : Sense → Reading → Rest → Stepped
-line_step names line rest = outcome line rest.read (done names line (pieces_of line.text) (head_in (pieces_of line.text)) rest)
+line_step names line rest = outcome line rest.read (done names line (pieces_of rest.dialect line.text) (head_in (pieces_of rest.dialect line.text)) rest)
 
 -- A line that may be continued by those to come: of one that is, the `-` and the comment behind it are dropped, and what
 -- is joined counts without them.
@@ -68,7 +68,7 @@ read_on names r [] rest = line_step names r (record rest { lines = [] })
 read_on names r (line ∷ lines) rest =
     if is_long line.text then Faults line.number (rest.read + 1) faults.Token
     else (if nat_le 100000 rest.read then Faults line.number (rest.read + 1) faults.Lines
-    else joined_with (rest.read + 1) r (r.text ++ line.text) line.text (dash_in (pieces_of (r.text ++ line.text)))
+    else joined_with (rest.read + 1) r (r.text ++ line.text) line.text (dash_in (pieces_of rest.dialect (r.text ++ line.text)))
     (λ whole. line_step names whole (record rest { lines = lines; read = rest.read + 1 }))
     (λ more. read_on names more lines (record rest { read = rest.read + 1 })))
 

@@ -1,5 +1,6 @@
 -- How lines are read, with those that continue them.
 use Rattle.std.specs.Prelude.{◌≡◌, ℕ, ◌+◌, ◌*◌, ◌<◌, ◌≤◌, List, ◌∷◌, ◌++◌, length, if◌then◌else◌}
+use Rattle.vax_dialect.specs.declared.Dialect.{Dialect}
 use Rattle.vax_lex.specs.Tokens.{pieces_of}
 use Rattle.vax_lex.specs.Values.{Sense}
 use Rattle.vax_macro.specs.Expansion.{Stepped, Faults, Ends, line_step, read_on, joined_with, next_line_step, unclosed}
@@ -13,13 +14,13 @@ use Rattle.vax_macro.specs.declared.line_types.Reading as code_reading
 use Rattle.vax_macro.specs.declared.line_types.Read.TheVariants as reads
 
 -- a line behind the text so far: the whole, or it is continued, or what is joined is too long
-abbrev pub Puts : Joined → Reading → List ℕ → Reading → Type 0
-Puts joins.Whole r part after =
-    (place : ℕ) (whole more : Reading → Stepped) → joined_with place r (r.text ++ part) part (dash_in (pieces_of (r.text ++ part))) whole more ≡ whole after
-Puts joins.More r part after =
-    (place : ℕ) (whole more : Reading → Stepped) → joined_with place r (r.text ++ part) part (dash_in (pieces_of (r.text ++ part))) whole more ≡ more after
-Puts (joins.Fault number kind) r part after =
-    (place : ℕ) (whole more : Reading → Stepped) → joined_with place r (r.text ++ part) part (dash_in (pieces_of (r.text ++ part))) whole more ≡ Faults number place kind
+abbrev pub Puts : Dialect → Joined → Reading → List ℕ → Reading → Type 0
+Puts d joins.Whole r part after =
+    (place : ℕ) (whole more : Reading → Stepped) → joined_with place r (r.text ++ part) part (dash_in (pieces_of d (r.text ++ part))) whole more ≡ whole after
+Puts d joins.More r part after =
+    (place : ℕ) (whole more : Reading → Stepped) → joined_with place r (r.text ++ part) part (dash_in (pieces_of d (r.text ++ part))) whole more ≡ more after
+Puts d (joins.Fault number kind) r part after =
+    (place : ℕ) (whole more : Reading → Stepped) → joined_with place r (r.text ++ part) part (dash_in (pieces_of d (r.text ++ part))) whole more ≡ Faults number place kind
 
 -- a line that is whole, goes on with these lines, or has a fault
 abbrev pub Joins : Sense → Joined → List SourceLine → Reading → Rest → Stepped → Type 0
@@ -27,10 +28,10 @@ Joins names joins.Whole lines r rest s = s ≡ line_step names r (record rest { 
 Joins names joins.More lines r rest s = s ≡ read_on names r lines rest
 Joins names (joins.Fault number kind) lines r rest s = s ≡ Faults number rest.read kind
 
-abbrev pub IsJoined : Joined → Reading → SourceLine → Reading → (before after : ℕ) → Type 0
-IsJoined j r line next before after =
+abbrev pub IsJoined : Dialect → Joined → Reading → SourceLine → Reading → (before after : ℕ) → Type 0
+IsJoined d j r line next before after =
     (names : Sense) (lines : List SourceLine) (rest : Rest)
-    → Joins names j lines next (record rest { read = after }) (read_on names r (line ∷ lines) (record rest { read = before }))
+    → Joins names j lines next (record rest { dialect = d; read = after }) (read_on names r (line ∷ lines) (record rest { dialect = d; read = before }))
 
 -- no more lines are read than may be
 abbrev pub IsWithin : Joined → ℕ → Type 0
@@ -44,9 +45,16 @@ Reads names (reads.Line line) after s = s ≡ line_step names (reading_of line) 
 Reads names (reads.Fault number kind) after s = s ≡ Faults number after.read kind
 Reads names reads.Nothing after s = s ≡ Ends (unclosed after.conditions after.collecting)
 
-abbrev pub IsRead : Read → (lines left : List SourceLine) → (before after : ℕ) → Type 0
-IsRead r lines left before after =
-    (names : Sense) (rest : Rest) → Reads names r (record rest { lines = left; read = after }) (next_line_step names lines (record rest { read = before }))
+abbrev pub IsRead : Dialect → Read → (lines left : List SourceLine) → (before after : ℕ) → Type 0
+IsRead d r lines left before after =
+    (names : Sense) (rest : Rest)
+    → Reads names r (record rest { dialect = d; lines = left; read = after }) (next_line_step names lines (record rest { dialect = d; read = before }))
+
+-- a line that was read is one of this dialect
+abbrev pub IsOf : Dialect → Read → Type 0
+IsOf d (reads.Line line) = line.dialect ≡ d
+IsOf d (reads.Fault number kind) = Unit {0}
+IsOf d reads.Nothing = Unit {0}
 
 -- a line that was read is counted
 abbrev pub IsCounted : Read → (before after : ℕ) → Type 0

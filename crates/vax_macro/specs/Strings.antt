@@ -2,6 +2,7 @@
 use Rattle.std.specs.Prelude.{ℕ, ℤ, pos, negsuc, zero, suc, ◌+◌, Bool, not, ◌||◌, ◌==◌, nat_le, List, [], ◌∷◌, length, take, drop, Option, Some, None, unwrap_or, Result, Ok, Err, codes, decimal, if◌then◌else◌}
 use Rattle.std.specs.List.{prefix_len}
 use Rattle.std.specs.Str.{bytes_eq}
+use Rattle.vax_dialect.specs.declared.Dialect.TheVariants.{Vax}
 use Rattle.vax_lex.specs.Characters.{spells}
 use Rattle.vax_lex.specs.Tokens.{pieces_of}
 use Rattle.vax_lex.specs.Values.{Sense}
@@ -66,14 +67,14 @@ parted byte text = parted_from byte (operand (behind_blanks text))
 
 -- ---- Values
 
--- a number that isn't negative
+-- A number that isn't negative. It is no statement, so the dialect of its pieces doesn't matter.
 abbrev pub natural : Result ℤ FaultKind → Result ℕ FaultKind
 natural (Ok (pos n)) = Ok n
 natural (Ok (negsuc n)) = Err faults.Range
 natural (Err kind) = Err kind
 
 abbrev pub count_in : Sense → List ℕ → Result ℕ FaultKind
-count_in names text = natural (number_in names text (pieces_of text))
+count_in names text = natural (number_in names text (pieces_of Vax text))
 
 -- The place of a text in another, looked for from a place on. Where it isn't there, the place behind all of it.
 unfoldable pub place_from : ℕ → List ℕ → List ℕ → ℕ

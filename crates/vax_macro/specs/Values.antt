@@ -1,5 +1,6 @@
 -- Arguments that are passed by value (VAX MACRO and Instruction Set Reference Manual, "Passing numeric values of symbols").
 use Rattle.std.specs.Prelude.{ℕ, ℤ, pos, negsuc, ◌+◌, List, [], ◌∷◌, drop, Some, None, Result, Ok, Err, decimal, if◌then◌else◌}
+use Rattle.vax_dialect.specs.declared.Dialect.TheVariants.{Vax}
 use Rattle.vax_lex.specs.Tokens.{pieces_of}
 use Rattle.vax_lex.specs.Values.{Sense}
 use Rattle.vax_macro.specs.Arguments.{Argument, begins_with}
@@ -18,7 +19,7 @@ then_digits (Err kind) = Err kind
 -- `\` and an expression stand for its value
 abbrev pub text_by_value : Sense → List ℕ → Result (List ℕ) FaultKind
 text_by_value names text =
-    if begins_with 92 text then then_digits (number_in names (drop 1 text) (pieces_of (drop 1 text))) else Ok text
+    if begins_with 92 text then then_digits (number_in names (drop 1 text) (pieces_of Vax (drop 1 text))) else Ok text
 
 abbrev pub with_text : Argument → Result (List ℕ) FaultKind → Result Argument FaultKind
 with_text a (Ok text) = Ok (record a { text = Some text })

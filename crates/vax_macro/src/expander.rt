@@ -16,14 +16,15 @@ use vax_lex::{Names, Piece, pieces};
 use vax_space::NoMemory;
 
 /// A statement: the number of its line in the source, or of the outermost call, its text of at most 1,024 bytes,
-/// continuations joined, and the pieces of the text.
+/// continuations joined, and the pieces of the text in its dialect.
 #[derive(Drop)]
 pub struct Line {
+    pub dialect: Dialect,
     pub number: u32,
     pub text: Vec<u8>,
     pub pieces: Vec<Piece>,
     pub ghost short: { length text.items ≤ 1024 },
-    pub ghost cut: { pieces.items ≡ pieces_of text.items },
+    pub ghost cut: { pieces.items ≡ pieces_of dialect text.items },
 }
 
 /// A source that is being expanded: what is left to open of it, and the error that was answered, if one was.
@@ -54,15 +55,16 @@ fn begin_of(condition: &OpenCondition) -> Begin
 }
 
 /// A statement of this text. None has more than 1,024 bytes; one that had is answered like what there is no room for.
-fn statement(alloc: Global, number: u32, text: Vec<u8>) -> Result<Line, NoMemory>
+fn statement(alloc: Global, dialect: Dialect, number: u32, text: Vec<u8>) -> Result<Line, NoMemory>
     ensures number { IfOk result (λ line. line.number ≡ number) }
     ensures text { IfOk result (λ line. line.text.items ≡ text.items) }
 {
     if text.len() > 1024 {
         return Err(NoMemory);
     }
-    let pieces = pieces(alloc, &text).map_err(|_| NoMemory)?;
+    let pieces = pieces(alloc, dialect, &text).map_err(|_| NoMemory)?;
     Ok(Line {
+        dialect,
         number,
         text,
         pieces,
@@ -77,7 +79,7 @@ impl Expander {
     ghost use Rattle.vax_macro.specs.Expansion.{AtEnd, step, line_step, cut, turned, behind_label, unclosed};
     ghost use Rattle.vax_macro.specs.Heads.{head_in};
     ghost use Rattle.vax_macro.specs.LineViews.{reading_of};
-    ghost use Rattle.vax_macro.specs.Readings.{Reads, Spares, left_of};
+    ghost use Rattle.vax_macro.specs.Readings.{IsOf, Reads, Spares, left_of};
     ghost use Rattle.vax_macro.specs.View.{opening_of, rest_in, Acts};
     ghost use Rattle.vax_macro.specs.Expanders.{rest_of, error_of, unclosed_of, read_of, Does, Opens, OpensNext, Shrinks};
 
@@ -117,6 +119,7 @@ impl Expander {
         ensures exact { IfOk result (λ r. (names : Sense) →
             Reads names r (rest_of self.new) (step names (rest_of self.old))) }
         ensures again { self.new.again ≡ None }
+        ensures dialect { IfOk result (λ r. IsOf self.new.state.dialect r) }
         ensures error { self.new.error ≡ self.old.error }
         ensures unclosed { self.new.unclosed ≡ self.old.unclosed }
         ensures fewer { IfOk result
@@ -124,11 +127,17 @@ impl Expander {
     {
         match self.again.take() {
             Some(left) => {
-                let line = whole(self.alloc, left)?;
+                let line = whole(self.alloc, self.state.dialect, left)?;
                 Ok(Read::Line(line))
             }
             None => {
-                let next = next_reading(self.alloc, &mut self.state.lines, &mut self.read)?;
+                let dialect = self.state.dialect;
+                let next = next_reading(
+                    self.alloc,
+                    dialect,
+                    &mut self.state.lines,
+                    &mut self.read,
+                )?;
                 Ok(next)
             }
         }
@@ -216,7 +225,8 @@ impl Expander {
 
     /// What a line changes.
     fn act<N: Names>(&mut self, names: &N, line: &Reading) -> Result<Done, NoMemory>
-        ensures exact { let pieces = pieces_of line.now.text.items in
+        requires { line.now.dialect ≡ self.old.state.dialect }
+        ensures exact { let pieces = pieces_of self.old.state.dialect line.now.text.items in
             IfOk result (λ d. Acts d self.old.read self.new.state
             (done (N.meaning names.now) (reading_of line.now) pieces (head_in pieces)
             (rest_in self.old.read self.old.state))) }
@@ -235,7 +245,8 @@ impl Expander {
     /// The step of a line.
     #[tactic(auto, unfolding(crate::specs::Expansion::line_step))]
     fn carry_out<N: Names>(&mut self, names: &N, line: Reading) -> Result<Step, NoMemory>
-        requires { self.old.again ≡ None }
+        requires again { self.old.again ≡ None }
+        requires dialect { line.dialect ≡ self.old.state.dialect }
         ensures exact { IfOk result (λ s. Does s self.new
             (line_step (N.meaning names.now) (reading_of line) (rest_of self.old))) }
         ensures error { self.new.error ≡ self.old.error }
@@ -248,12 +259,14 @@ impl Expander {
             Done::Goes => Ok(Step::Goes),
             Done::Gives => {
                 let Reading {
+                    dialect,
                     number,
                     text,
                     pieces,
                     ..
                 } = line;
                 Ok(Step::Says(Line {
+                    dialect,
                     number,
                     text,
                     pieces,
@@ -270,11 +283,11 @@ impl Expander {
             Done::Label(at) => {
                 self.hand_out_label(&line)?;
                 let text = copied(self.alloc, part(&line.text, 0, at))?;
-                let said = statement(self.alloc, line.number, text)?;
+                let said = statement(self.alloc, line.dialect, line.number, text)?;
                 Ok(Step::Says(said))
             }
             Done::Writes(text) => {
-                let said = statement(self.alloc, line.number, text)?;
+                let said = statement(self.alloc, line.dialect, line.number, text)?;
                 Ok(Step::Says(said))
             }
             Done::Fails(kind) => Ok(Step::Faults(line.number, kind)),

@@ -8,6 +8,7 @@ use crate::error::FaultKind;
 use crate::template_types::Template;
 use std::collections::VecDeque;
 use std::rc::Rc;
+use vax_dialect::Dialect;
 use vax_lex::Piece;
 
 /// A line that is still to come: the number of its place in the source, or of the outermost call, and how many
@@ -29,10 +30,11 @@ pub(crate) struct Remainder {
     ghost short: { length text.items ≤ 1024 },
 }
 
-/// A line as it was read: its text, continuations joined, the pieces of the text, the lines that it was, and whether its
+/// A line as it was read, in a dialect: its text, continuations joined, the pieces of the text, the lines that it was, and whether its
 /// label was handed out.
 #[derive(Drop)]
 pub(crate) struct Reading {
+    pub(crate) dialect: Dialect,
     pub(crate) number: u32,
     pub(crate) depth: u32,
     pub(crate) text: Vec<u8>,
@@ -40,7 +42,7 @@ pub(crate) struct Reading {
     pub(crate) parts: Vec<Vec<u8>>,
     pub(crate) labelled: bool,
     ghost short: { length text.items ≤ 1024 },
-    ghost cut: { pieces.items ≡ pieces_of text.items },
+    ghost cut: { pieces.items ≡ pieces_of dialect text.items },
     ghost short_parts: { All (λ t. length t.items ≤ 1024) parts.items } by { Prim.hlevel props },
 }
 

@@ -5,7 +5,7 @@ ghost use Rattle.vax_lex.specs.Tokens.{pieces_of};
 ghost use Rattle.vax_macro.specs.Lines.{dash_in, with_part};
 ghost use Rattle.vax_macro.specs.LineViews.{line_of, lines_of, reading_of, remainder_of};
 ghost use Rattle.vax_macro.specs.Expansion.{whole};
-ghost use Rattle.vax_macro.specs.Readings.{Puts, IsJoined, IsWithin, IsRead, IsCounted};
+ghost use Rattle.vax_macro.specs.Readings.{Puts, IsJoined, IsWithin, IsRead, IsOf, IsCounted};
 
 use crate::counts::one_more;
 use crate::error::FaultKind;
@@ -13,6 +13,7 @@ use crate::heads::is_mark_piece;
 use crate::line_types::{Joined, Lines, Read, Reading, Remainder, SourceLine};
 use crate::names::{copied, part};
 use std::alloc::Global;
+use vax_dialect::Dialect;
 use vax_lex::{Piece, pieces};
 use vax_space::NoMemory;
 
@@ -57,11 +58,13 @@ fn joined(alloc: Global, before: &[u8], text: &[u8]) -> Result<Vec<u8>, NoMemory
 impl Reading {
     /// No line so far.
     #[tactic(auto, using(crate::proofs::Within::nothing_cut))]
-    fn new(alloc: Global, number: u32, depth: u32) -> Reading
-        ensures { reading_of result
+    fn new(alloc: Global, dialect: Dialect, number: u32, depth: u32) -> Reading
+        ensures exact { reading_of result
             ≡ record { number = number; depth = depth; text = []; parts = []; labelled = false } }
+        ensures dialect { result.dialect ≡ dialect }
     {
         Reading {
+            dialect,
             number,
             depth,
             text: Vec::new(alloc),
@@ -74,10 +77,11 @@ impl Reading {
     /// Puts a line behind the text, which it makes this one with these pieces.
     fn keep(&mut self, text: Vec<u8>, pieces: Vec<Piece>, line: Vec<u8>) -> Result<(), NoMemory>
         requires short { length text.items ≤ 1024 }
-        requires cut { pieces.items ≡ pieces_of text.items }
+        requires cut { pieces.items ≡ pieces_of self.old.dialect text.items }
         requires part { length line.items ≤ 1024 }
-        ensures { OnOk result
+        ensures exact { OnOk result
             (reading_of self.new ≡ with_part (reading_of self.old) text.items line.items) }
+        ensures dialect { self.new.dialect ≡ self.old.dialect }
     {
         self.text = text;
         self.pieces = pieces;
@@ -87,11 +91,12 @@ impl Reading {
     /// Puts a line behind the text: up to its last `-`, where it is continued.
     fn put(&mut self, alloc: Global, line: Vec<u8>) -> Result<Joined, NoMemory>
         requires { length line.items ≤ 1024 }
-        ensures { IfOk result
-            (λ j. Puts j (reading_of self.old) line.items (reading_of self.new)) }
+        ensures exact { IfOk result
+            (λ j. Puts self.old.dialect j (reading_of self.old) line.items (reading_of self.new)) }
+        ensures dialect { self.new.dialect ≡ self.old.dialect }
     {
         let text = joined(alloc, &self.text, &line)?;
-        let found = pieces(alloc, &text).map_err(|_| NoMemory)?;
+        let found = pieces(alloc, self.dialect, &text).map_err(|_| NoMemory)?;
         let Some(dash) = dash_in(&found) else {
             if text.len() > LONGEST {
                 return Ok(Joined::Fault(self.number, FaultKind::Token));
@@ -104,7 +109,7 @@ impl Reading {
             return Ok(Joined::Fault(self.number, FaultKind::Token));
         }
         let kept = copied(alloc, kept)?;
-        let found = pieces(alloc, &kept).map_err(|_| NoMemory)?;
+        let found = pieces(alloc, self.dialect, &kept).map_err(|_| NoMemory)?;
         self.keep(kept, found, line)?;
         Ok(Joined::More)
     }
@@ -112,8 +117,9 @@ impl Reading {
     /// Reads a line behind the text.
     #[tactic(auto, unfolding(crate::specs::Expansion::read_on))]
     fn join(&mut self, alloc: Global, line: SourceLine, read: &mut u32) -> Result<Joined, NoMemory>
-        ensures exact { IfOk result (λ j. IsJoined j (reading_of self.old) (line_of line)
-            (reading_of self.new) read.old read.new) }
+        ensures exact { IfOk result (λ j. IsJoined self.old.dialect j (reading_of self.old)
+            (line_of line) (reading_of self.new) read.old read.new) }
+        ensures dialect { self.new.dialect ≡ self.old.dialect }
         ensures more { IfOk result (λ j. read.old < read.new) }
         ensures within { IfOk result (λ j. IsWithin j read.new) }
     {
@@ -130,8 +136,9 @@ impl Reading {
 }
 
 /// What is left of a line, as a line of its own.
-pub(crate) fn whole(alloc: Global, left: Remainder) -> Result<Reading, NoMemory>
-    ensures { IfOk result (λ r. reading_of r ≡ whole (remainder_of left)) }
+pub(crate) fn whole(alloc: Global, dialect: Dialect, left: Remainder) -> Result<Reading, NoMemory>
+    ensures exact { IfOk result (λ r. reading_of r ≡ whole (remainder_of left)) }
+    ensures dialect { IfOk result (λ r. r.dialect ≡ dialect) }
 {
     let Remainder {
         number,
@@ -139,11 +146,12 @@ pub(crate) fn whole(alloc: Global, left: Remainder) -> Result<Reading, NoMemory>
         text,
         labelled,
     } = left;
-    let pieces = pieces(alloc, &text).map_err(|_| NoMemory)?;
+    let pieces = pieces(alloc, dialect, &text).map_err(|_| NoMemory)?;
     let mut parts = Vec::new(alloc);
     let copy = copied(alloc, &text)?;
     parts.push(copy).map_err(|_| NoMemory)?;
     Ok(Reading {
+        dialect,
         number,
         depth,
         text,
@@ -153,22 +161,24 @@ pub(crate) fn whole(alloc: Global, left: Remainder) -> Result<Reading, NoMemory>
     })
 }
 
-/// The next line, with those that continue it.
+/// The next line of a source in a dialect, with those that continue it.
 #[tactic(auto, unfolding(crate::specs::Expansion::read_on))]
 pub(crate) fn next_reading(
     alloc: Global,
+    dialect: Dialect,
     lines: &mut Lines,
     read: &mut u32,
 ) -> Result<Read, NoMemory>
     ensures exact { IfOk result
-        (λ r. IsRead r (lines_of lines.old) (lines_of lines.new) read.old read.new) }
+        (λ r. IsRead dialect r (lines_of lines.old) (lines_of lines.new) read.old read.new) }
+    ensures dialect { IfOk result (λ r. IsOf dialect r) }
     ensures counted { IfOk result (λ r. IsCounted r read.old read.new) }
 {
     let next = lines.next(alloc)?;
     let Some(first) = next else {
         return Ok(Read::Nothing);
     };
-    let mut begun = Reading::new(alloc, first.number, first.depth);
+    let mut begun = Reading::new(alloc, dialect, first.number, first.depth);
     let mut joined = begun.join(alloc, first, read)?;
     'lines: loop {
         match joined {

@@ -1,6 +1,7 @@
 // Arguments that are passed by value.
 
 ghost use Rattle.std.specs.Prelude.{◌≡◌, ◌++◌, ◌∷◌, [], IfOk, OnOk};
+ghost use Rattle.vax_dialect.specs.declared.Dialect.TheVariants.{Vax};
 ghost use Rattle.vax_lex.specs.Tokens.{pieces_of};
 ghost use Rattle.vax_macro.specs.ArgumentViews.{argument_view, arguments_view};
 ghost use Rattle.vax_macro.specs.ConditionViews.{Decides, same};
@@ -12,6 +13,7 @@ use crate::conditions::{Refusal, number_in};
 use crate::names::{begins_with, behind};
 use itoa::Buffer;
 use std::alloc::Global;
+use vax_dialect::Dialect;
 use vax_lex::{Names, pieces};
 use vax_space::NoMemory;
 
@@ -33,12 +35,12 @@ fn digits(alloc: Global, number: i64) -> Result<Vec<u8>, NoMemory>
 /// no room for.
 pub(crate) fn number_of<N: Names>(alloc: Global, names: &N, text: &[u8]) -> Result<i64, Refusal>
     ensures { Decides same result
-        (number_in (N.meaning names.now) text.now (pieces_of text.now)) }
+        (number_in (N.meaning names.now) text.now (pieces_of Vax text.now)) }
 {
     if text.len() > 1024 {
         return Err(Refusal::NoMemory);
     }
-    let Ok(pieces) = pieces(alloc, text) else {
+    let Ok(pieces) = pieces(alloc, Dialect::Vax, text) else {
         return Err(Refusal::NoMemory);
     };
     number_in(alloc, names, text, &pieces)

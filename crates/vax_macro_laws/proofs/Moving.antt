@@ -375,7 +375,7 @@ outcome_of line rest (Fails kind) none h = (refl, refl)
 
 line_of : (names : Sense) (line : Reading) (rest : Rest) → rest.again ≡ None → IsOf line.number rest.read (line_step names line rest)
 unfolding line_step
-line_of names line rest none = outcome_of line rest (done names line (pieces_of line.text) (head_in (pieces_of line.text)) rest) none (done_leaves names line (pieces_of line.text) (head_in (pieces_of line.text)) rest)
+line_of names line rest none = outcome_of line rest (done names line (pieces_of rest.dialect line.text) (head_in (pieces_of rest.dialect line.text)) rest) none (done_leaves names line (pieces_of rest.dialect line.text) (head_in (pieces_of rest.dialect line.text)) rest)
 
 -- a step of the line that was just read, or of one behind it
 pub record Moves (from : ℕ) (st : Stepped) : Type 0 where
@@ -397,7 +397,7 @@ unfolding read_on
 moves_more names r [] rest from less none = record { number = r.number; place = rest.read; more = less; is = line_of names r (record rest { lines = [] }) none }
 moves_more names r (line ∷ lines) rest from less none =
     let text : List ℕ = r.text ++ line.text in
-    let dash : Option ℕ = dash_in (pieces_of text) in
+    let dash : Option ℕ = dash_in (pieces_of rest.dialect text) in
     let part : Reading = with_part r (before_dash text dash) line.text in
     let after : Rest = record rest { lines = lines; read = rest.read + 1 } in
     let on : Rest = record rest { read = rest.read + 1 } in
@@ -414,7 +414,7 @@ unfolding read_on
 moves_first names r line lines rest none =
     let from : ℕ = rest.read in
     let text : List ℕ = r.text ++ line.text in
-    let dash : Option ℕ = dash_in (pieces_of text) in
+    let dash : Option ℕ = dash_in (pieces_of rest.dialect text) in
     let part : Reading = with_part r (before_dash text dash) line.text in
     let after : Rest = record rest { lines = lines; read = rest.read + 1 } in
     let on : Rest = record rest { read = rest.read + 1 } in
@@ -478,7 +478,7 @@ outcome_hands line rest (Fails kind) none h = tt
 
 pub line_hands : (names : Sense) (line : Reading) (rest : Rest) → rest.again ≡ None → Hands line.labelled (line_step names line rest)
 unfolding line_step
-line_hands names line rest none = outcome_hands line rest (done names line (pieces_of line.text) (head_in (pieces_of line.text)) rest) none (done_leaves names line (pieces_of line.text) (head_in (pieces_of line.text)) rest)
+line_hands names line rest none = outcome_hands line rest (done names line (pieces_of rest.dialect line.text) (head_in (pieces_of rest.dialect line.text)) rest) none (done_leaves names line (pieces_of rest.dialect line.text) (head_in (pieces_of rest.dialect line.text)) rest)
 
 hands_faults : (b labelled : Bool) (number place : ℕ) (kind : FaultKind) (next : Stepped) → Hands labelled next → Hands labelled (cond b (Faults number place kind) next)
 hands_faults true labelled number place kind next h = tt
@@ -493,7 +493,7 @@ unfolding read_on
 hands_on names r [] rest none = line_hands names r (record rest { lines = [] }) none
 hands_on names r (line ∷ lines) rest none =
     let text : List ℕ = r.text ++ line.text in
-    let dash : Option ℕ = dash_in (pieces_of text) in
+    let dash : Option ℕ = dash_in (pieces_of rest.dialect text) in
     let part : Reading = with_part r (before_dash text dash) line.text in
     let after : Rest = record rest { lines = lines; read = rest.read + 1 } in
     let on : Rest = record rest { read = rest.read + 1 } in

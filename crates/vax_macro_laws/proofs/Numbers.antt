@@ -392,7 +392,7 @@ outcome_of m line place (Fails kind) h k = h
 line_of : (m : ℕ) (names : Sense) (line : Reading) (rest : Rest) → IsLine m line.number → IsOfLines m rest → GivesOfLines m (line_step names line rest)
 unfolding line_step
 line_of m names line rest h k =
-    outcome_of m line rest.read (done names line (pieces_of line.text) (head_in (pieces_of line.text)) rest) h (done_of m names line (pieces_of line.text) (head_in (pieces_of line.text)) rest h k)
+    outcome_of m line rest.read (done names line (pieces_of rest.dialect line.text) (head_in (pieces_of rest.dialect line.text)) rest) h (done_of m names line (pieces_of rest.dialect line.text) (head_in (pieces_of rest.dialect line.text)) rest h k)
 
 faults_of : (m : ℕ) (b : Bool) (number place : ℕ) (kind : FaultKind) (next : Stepped) → IsLine m number → GivesOfLines m next → GivesOfLines m (cond b (Faults number place kind) next)
 faults_of m true number place kind next h k = h
@@ -407,7 +407,7 @@ unfolding read_on
 read_on_of m names r [] rest h all k = line_of m names r (record rest { lines = [] }) h (record { lines = all; again = k.again; collecting = k.collecting })
 read_on_of m names r (line ∷ lines) rest h all k =
     let text : List ℕ = r.text ++ line.text in
-    let dash : Option ℕ = dash_in (pieces_of text) in
+    let dash : Option ℕ = dash_in (pieces_of rest.dialect text) in
     let part : Reading = with_part r (before_dash text dash) line.text in
     let after : Rest = record rest { lines = lines; read = rest.read + 1 } in
     let on : Rest = record rest { read = rest.read + 1 } in

@@ -81,7 +81,6 @@ impl Store {
         let bytes = zeros(alloc, frames)?;
         let lists = Lists::new(alloc, frames)?;
         let blocked = Marks::new(alloc)?;
-        let _ = space.areas();
         Ok(Store {
             space,
             tables,

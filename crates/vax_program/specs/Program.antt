@@ -32,6 +32,8 @@ pub data Refusal : Type 0 where
   Source : (file line kind : ℕ) → Refusal
   Link : (kind : ℕ) → List ℕ → (address : ℕ) → Refusal
   InImage : (place kind : ℕ) → Refusal
+  -- a fault of a source that is in one of the files that are read before it
+  InPrelude : (file line kind : ℕ) → Refusal
 
 -- a file of an image begins so
 abbrev pub is_image : List ℕ → Bool

@@ -61,12 +61,14 @@ fn listed(alloc: Global, fail: Option<Failing>) -> Result<Vec<Failing>, AllocErr
     Ok(fails)
 }
 
-/// Calls the program with the words of a line, between single blanks, over these files and one more, with a call of the page file that is to fail.
+/// Calls the program with the words of a line, between single blanks, over these files and one more, with a call of the page file that is to fail and these
+/// lines of standard input.
 fn call_with(
     alloc: Global,
     line: &str,
     file: (&str, &[u8]),
     page: Option<Failing>,
+    typed: &[u8],
 ) -> Result<Left, Fail> {
     let mut all = Vec::new(alloc);
     for word in line.split(' ') {
@@ -87,7 +89,7 @@ fn call_with(
     let mut files = MemFiles::new(held, Vec::new(alloc));
     let mut sink = MemSink::new(alloc, [1000, 1000, 100_000], 1000, Vec::new(alloc))?;
     let mut pages = MemPages::new(alloc, 400, 1000, listed(alloc, page)?)?;
-    let mut lines = MemLines::new(b"");
+    let mut lines = MemLines::new(typed);
     let status = vax_main(
         alloc,
         all.as_slice(),
@@ -109,17 +111,27 @@ pub(crate) fn call_failing(
     state: &[u8],
     page: Option<Failing>,
 ) -> Result<Left, Fail> {
-    call_with(alloc, line, ("STATE", state), page)
+    call_with(alloc, line, ("STATE", state), page, b"")
 }
 
 /// The same, where the file more is the source A, with no call that is to fail.
 pub(crate) fn call_over(alloc: Global, line: &str, source: &[u8]) -> Result<Left, Fail> {
-    call_with(alloc, line, ("A", source), None)
+    call_with(alloc, line, ("A", source), None, b"")
 }
 
 /// The same over a saved state, with no call that is to fail.
 pub(crate) fn call(alloc: Global, line: &str, state: &[u8]) -> Result<Left, Fail> {
     call_failing(alloc, line, state, None)
+}
+
+/// The same of a debugger that is given these lines, with a call of the page file that is to fail.
+pub(crate) fn debug(
+    alloc: Global,
+    line: &str,
+    typed: &[u8],
+    page: Option<Failing>,
+) -> Result<Left, Fail> {
+    call_with(alloc, line, ("STATE", b""), page, typed)
 }
 
 /// The state of the move behind its first part: 1,356 bytes.

@@ -1,5 +1,5 @@
 //! Runs that are saved and go on. Expected values are those of the whole run, or worked by hand.
-use crate::calls::{call, call_failing, move_state};
+use crate::calls::{call, call_failing, debug, move_state};
 use std::process::Abort;
 use std::test::Fail;
 use vax_outside::Fail as Failing;
@@ -92,5 +92,52 @@ fn a_failed_read_cuts_the_state_short(rt: HostRuntime) -> Result<(), Fail> {
     assert!(rt; saved.state().len() < whole.state().len());
     let cut = call(alloc, "resume STATE", saved.state())?;
     assert!(rt; cut.code == 14 && cut.report().ends_with(b" fault 8\n"));
+    Ok(())
+}
+
+/// What a debugger saves behind so many steps is what `save` does, whatever it has shown or evicted; and behind a deposit the run goes on with that.
+#[test]
+fn goes_on_from_a_session(rt: HostRuntime) -> Result<(), Fail> {
+    let alloc = rt.alloc();
+    let whole = call(alloc, "run WORDS --input TEXT", b"")?;
+    let line = "debug WORDS --input TEXT";
+    for (typed, steps) in [
+        (b"SAVE".as_slice(), 0),
+        (b"step 100\nevict all\nexamine r6\nsave\nstep 2\n", 100),
+        (b"step 60\nturn\nstep 139\nsa\n", 200u32),
+    ] {
+        let debugged = debug(alloc, line, typed, None)?;
+        let by_steps = format!(in alloc; "save WORDS --input TEXT --steps {steps}")?;
+        let saved = call(alloc, &by_steps, b"")?;
+        assert!(rt; debugged.code == 0 && debugged.state() == saved.state());
+        assert!(rt; debugged.report().ends_with(saved.report()));
+        let resumed = call(alloc, "resume STATE", debugged.state())?;
+        assert!(rt; resumed.code == 0 && resumed.report() == whole.report());
+        let mut out = debugged.out().to_vec(alloc)?;
+        out.extend_from_slice(resumed.out())?;
+        assert!(rt; out.as_slice() == whole.out());
+    }
+    let changed = debug(alloc, line, b"STEP 200\nDEPOSIT R6 7\nSAVE\n", None)?;
+    let before = call(alloc, "save WORDS --input TEXT --steps 200", b"")?;
+    assert!(rt; changed.code == 0 && changed.state().len() == before.state().len());
+    assert!(rt; changed.state() != before.state());
+    Ok(())
+}
+
+/// Behind an ending nothing is saved, as by `save`; and a failed read cuts a state short.
+#[test]
+fn a_session_saves_no_ending(rt: HostRuntime) -> Result<(), Fail> {
+    let alloc = rt.alloc();
+    let ended = debug(alloc, "debug MOVE --base bare", b"GO\nSAVE\n", None)?;
+    assert!(rt; ended.code == 0 && ended.report().ends_with(MOVED));
+    assert!(rt; ended.state() == b"".as_slice());
+    let line = "debug WIDE --base bare --frames 64";
+    let typed = b"STEP 240\nSAVE\n";
+    let whole = debug(alloc, line, typed, None)?;
+    assert!(rt; whole.code == 0);
+    let cut = debug(alloc, line, typed, Some(Failing::Read(1)))?;
+    assert!(rt; cut.code == 9);
+    assert!(rt; whole.state().starts_with(cut.state()));
+    assert!(rt; cut.state().len() < whole.state().len());
     Ok(())
 }

@@ -6,7 +6,8 @@
 //! reads the entry at once where they lead to. All entries are longwords, low byte first.
 #![tactic(auto)]
 
-ghost use Rattle.std.specs.Prelude.{◌≡◌, ◌<◌, ◌≤◌, true, false, Option, Some, None, IfOk, IfSome, option_map};
+ghost use Rattle.std.specs.Prelude.{◌≡◌, ◌<◌, ◌≤◌, true, false, Option, Some, None, IfOk, IfSome, OnOk, option_map};
+ghost use Rattle.vax_space.specs.Faults.{IsSpace};
 ghost use Rattle.vax_table.specs.Layout.{IsSound};
 ghost use Rattle.vax_table.specs.Mapping.{ChangesAt, MapsAt, mapped, unmodified, all_absent, changed, is_inside, is_resident, frame_of, none_kept, prot_said, set_in, cleared, marked, dirty};
 
@@ -52,6 +53,7 @@ impl Tables {
     pub fn new(alloc: Global, space: &Space) -> Result<Tables, NoMemory>
         ensures walked { IfOk result (λ tables. walked tables ≡ mapped space.now all_absent) }
         ensures kept { IfOk result (λ tables. kept tables ≡ none_kept) }
+        ensures space { OnOk result (IsSpace space.now) }
     {
         let memory = new_memory(alloc, space)?;
         Ok(Tables { memory })

@@ -1,10 +1,11 @@
 //! The wired memory in which the page tables lie.
-ghost use Rattle.std.specs.Prelude.{◌≡◌, ◌≤◌, ◌<◌, ◌*◌, ◌+◌, true, length, Some, IfOk, IfSome};
+ghost use Rattle.std.specs.Prelude.{◌≡◌, ◌≤◌, ◌<◌, ◌*◌, ◌+◌, true, length, Some, IfOk, IfSome, OnOk};
 ghost use Rattle.vax_table.specs.Entry as entry_spec;
 ghost use Rattle.vax_table.specs.Layout as layout;
 ghost use Rattle.vax_table.specs.Layout.{IsSound, walked_in, kept_in, total, IsFilled};
 ghost use Rattle.vax_table.specs.Mapping.{changed, is_inside, mapped, all_absent, none_kept};
 ghost use Rattle.vax_space.specs.Areas.{prot_of};
+ghost use Rattle.vax_space.specs.Faults.{IsSpace};
 
 use crate::entry::{NO_AREA, entry_at, entry_with, frame_in, put_entry};
 use std::alloc::Global;
@@ -183,6 +184,7 @@ pub(crate) fn new_memory(alloc: Global, space: &Space) -> Result<Memory, NoMemor
     ensures sound { IfOk result IsSound }
     ensures walked { IfOk result (λ memory. walked_in memory ≡ mapped space.now all_absent) }
     ensures kept { IfOk result (λ memory. kept_in memory ≡ none_kept) }
+    ensures space { OnOk result (IsSpace space.now) }
 {
     let p0_end = space.p0_end();
     let p1_start = space.p1_start();

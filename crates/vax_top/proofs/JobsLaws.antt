@@ -12,7 +12,7 @@ use Rattle.vax_command.specs.Status.{refusal_growth}
 use Rattle.vax_command.specs.declared.status.Status.{Status}
 use Rattle.vax_command.specs.declared.status.Status.TheVariants.{NoMemory}
 use Rattle.vax_top.specs.Loaded.{IsRefused}
-use Rattle.vax_top.specs.Together.{together_loaded}
+use Rattle.vax_top.specs.Together.{together_for}
 use Rattle.vax_top.specs.Top.{Carries, CommandComes, TogetherDo, jobs_of}
 use Rattle.vax_top.proofs.TopLaws.{no_memory}
 
@@ -38,9 +38,9 @@ module _ (outside : Outside) (loaded : Result Users Refusal) (texts : JobsTexts)
   jobs_made programs is r = record { meant = r.meant; grown = r.grown; so = as_run programs r.meant r.grown is r.so; ends = r.ends }
 
 module _ (seen : Around) (result : Status) (names : List Text) (options : JobsOptions) (texts : JobsTexts) where
-  jobs_come : (status : Status) (grown : Channels) → HasJobsTexts seen.files.before.told names options texts → AreTogetherOf (outside_of seen) (together_loaded options.dialect texts.programs) texts options status grown → CommandComes seen (jobs names options) status grown
+  jobs_come : (status : Status) (grown : Channels) → HasJobsTexts seen.files.before.told names options texts → AreTogetherOf (outside_of seen) (together_for seen.preludes options.dialect texts.programs) texts options status grown → CommandComes seen (jobs names options) status grown
   jobs_come status grown h (inl e) = no_memory seen (jobs names options) status grown e
-  jobs_come status grown h (inr d) = inr (h.files, h.read, subst (λ (t : JobsTexts). jobs_of (outside_of seen) t options status grown) (sym h.are) d)
+  jobs_come status grown h (inr d) = inr (h.files, h.read, subst (λ (t : JobsTexts). jobs_of seen.preludes (outside_of seen) t options status grown) (sym h.are) d)
 
-  pub jobs_carries : HasJobsTexts seen.files.before.told names options texts → TogetherOf (outside_of seen) (together_loaded options.dialect texts.programs) texts options result → Carries seen (jobs names options) result
+  pub jobs_carries : HasJobsTexts seen.files.before.told names options texts → TogetherOf (outside_of seen) (together_for seen.preludes options.dialect texts.programs) texts options result → Carries seen (jobs names options) result
   jobs_carries h r = record { meant = r.meant; grown = r.grown; comes = jobs_come r.meant r.grown h r.so; ends = r.ends }

@@ -6,3 +6,5 @@ pub mod TopLaws
 pub mod BesideLaws
 pub mod TracingLaws
 pub mod JobsLaws
+pub mod Retelling
+pub mod Joining

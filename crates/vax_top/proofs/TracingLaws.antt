@@ -35,9 +35,9 @@ module _ (outside : Outside) (loaded : Result Loaded Refusal) (texts : Texts) (t
   trace_made program is r = record { meant = r.meant; grown = r.grown; so = as_traced program r.meant r.grown is r.so; ends = r.ends }
 
 module _ (seen : Around) (result : Status) (names : List Text) (linked : words_base.Base) (tracing : Tracing) (options : Options) (texts : Texts) where
-  trace_comes : (status : Status) (grown : Channels) → HasTexts seen.files.before.told names options None texts → IsTraceOf (outside_of seen) (session_programs options.dialect linked texts) texts tracing options status grown → CommandComes seen (trace names linked tracing options) status grown
+  trace_comes : (status : Status) (grown : Channels) → HasTexts seen.files.before.told names options None texts → IsTraceOf (outside_of seen) (session_programs seen.preludes options.dialect linked texts) texts tracing options status grown → CommandComes seen (trace names linked tracing options) status grown
   trace_comes status grown h (inl e) = no_memory seen (trace names linked tracing options) status grown e
-  trace_comes status grown h (inr d) = inr (h.files, h.read, subst (λ (t : Texts). trace_of (outside_of seen) (session_programs options.dialect linked) t tracing options status grown) (sym h.are) d)
+  trace_comes status grown h (inr d) = inr (h.files, h.read, subst (λ (t : Texts). trace_of (outside_of seen) (session_programs seen.preludes options.dialect linked) t tracing options status grown) (sym h.are) d)
 
-  pub trace_carries : HasTexts seen.files.before.told names options None texts → TracedOf (outside_of seen) (session_programs options.dialect linked texts) texts tracing options result → Carries seen (trace names linked tracing options) result
+  pub trace_carries : HasTexts seen.files.before.told names options None texts → TracedOf (outside_of seen) (session_programs seen.preludes options.dialect linked texts) texts tracing options result → Carries seen (trace names linked tracing options) result
   trace_carries h r = record { meant = r.meant; grown = r.grown; comes = trace_comes r.meant r.grown h r.so; ends = r.ends }

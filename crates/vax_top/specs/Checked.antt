@@ -15,7 +15,8 @@ use Rattle.vax_image.specs.declared.Base.TheVariants.{User, Bare}
 use Rattle.vax_outside.specs.Blocks.{BlockFile}
 use Rattle.vax_outside.specs.Channels.{Channels, only}
 use Rattle.vax_outside.specs.declared.traits.Chan.TheVariants.{Out}
-use Rattle.vax_program.specs.Program.{Refusal, Source, Link, InImage}
+use Rattle.vax_prelude.specs.Preludes.{Title}
+use Rattle.vax_program.specs.Program.{Refusal, Source, Link, InImage, InPrelude}
 use Rattle.vax_top.specs.Loaded.{image_from, user_loaded}
 
 -- why there is no program, if there is none
@@ -46,6 +47,7 @@ abbrev pub part_of : Refusal → Part
 part_of (Source file line kind) = part.Source
 part_of (Link kind name address) = part.Link
 part_of (InImage place kind) = part.Image
+part_of (InPrelude file line kind) = part.Source
 
 -- the answer to that
 abbrev pub answer_of : Option Refusal → Status
@@ -54,16 +56,16 @@ answer_of (Some refusal) = Told (part_of refusal)
 
 -- What was found of a program, which may be one for the bare machine, was told on Out: no error of one that is built, and of any other what keeps it
 -- from that; and then the remarks on its sources.
-pub record IsTold (dialect : Dialect) (bare : Bool) (found : Option Refusal) (names files : List Text) (status : Status) (grown : Channels) : Type 0 where
+pub record IsTold (dialect : Dialect) (bare : Bool) (found : Option Refusal) (titles : List Title) (files : List Text) (status : Status) (grown : Channels) : Type 0 where
   pub text : Text
-  pub tells : Tells dialect bare names files found text
+  pub tells : Tells dialect bare titles files found text
   pub answer : status ≡ answer_of found
   pub wrote : grown ≡ only Out text
 
 -- what `check` does
-abbrev pub CheckDoes : Change BlockFile → Dialect → (bare : Bool) → Option Refusal → (names files : List Text) → Status → Channels → Type 0
-CheckDoes pages dialect bare found names files status grown = IsTold dialect bare found names files status grown × pages.same
+abbrev pub CheckDoes : Change BlockFile → Dialect → (bare : Bool) → Option Refusal → List Title → (files : List Text) → Status → Channels → Type 0
+CheckDoes pages dialect bare found titles files status grown = IsTold dialect bare found titles files status grown × pages.same
 
 -- a program was checked so, or memory was refused before
-abbrev pub IsChecking : Change BlockFile → Dialect → (bare : Bool) → Option Refusal → (names files : List Text) → Status → Channels → Type 0
-IsChecking pages dialect bare found names files status grown = LacksMemory pages status grown ⊎ CheckDoes pages dialect bare found names files status grown
+abbrev pub IsChecking : Change BlockFile → Dialect → (bare : Bool) → Option Refusal → List Title → (files : List Text) → Status → Channels → Type 0
+IsChecking pages dialect bare found titles files status grown = LacksMemory pages status grown ⊎ CheckDoes pages dialect bare found titles files status grown

@@ -1,5 +1,5 @@
 -- The programs of a command: what its files come to.
-use Rattle.std.specs.Prelude.{◌≡◌, ℕ, suc, false, List, [], ◌∷◌, Option, Some, None, Result, Ok, Err}
+use Rattle.std.specs.Prelude.{◌≡◌, ℕ, suc, false, if◌then◌else◌, List, [], ◌∷◌, map, Option, Some, None, Result, Ok, Err}
 use Rattle.vax_asm.specs.Walk.{assembled}
 use Rattle.vax_dialect.specs.declared.Dialect.{Dialect}
 use Rattle.vax_dialect.specs.declared.Dialect.TheVariants.{Vax}
@@ -8,7 +8,9 @@ use Rattle.vax_image.specs.declared.Base.{Base}
 use Rattle.vax_image.specs.declared.Base.TheVariants as base
 use Rattle.vax_image.specs.declared.Image.{Image}
 use Rattle.vax_module.specs.declared.Module.{Module}
-use Rattle.vax_program.specs.Program.{Parts, Refusal, Source, Link, InImage, and_others, as_parts, is_linked, parts_of, linked_of}
+use Rattle.vax_program.specs.Program.{Parts, Refusal, Source, Link, InImage, InPrelude, and_others, as_parts, is_linked, parts_of, linked_of}
+use Rattle.vax_prelude.specs.Preludes as prelude
+use Rattle.vax_prelude.specs.Preludes.{Place, Prelude, joined, told_at}
 use Rattle.vax_cli.specs.Words.{Text}
 use Rattle.vax_command.specs.Loaded.{Loaded}
 use Rattle.vax_command.specs.declared.status.Status.{Status}
@@ -63,9 +65,42 @@ abbrev pub refused_as : Refusal → Status
 refused_as (Source file line kind) = status.Refused file line kind
 refused_as (Link kind name address) = status.Link kind name address
 refused_as (InImage place kind) = status.Image place kind
+refused_as (InPrelude file line kind) = status.Macros file line kind
 
 -- why files come to nothing
 pub record IsRefused {X : Type 0} (loaded : Result X Refusal) (status : Status) : Type 0 where
   pub refusal : Refusal
   pub found : loaded ≡ Err refusal
   pub answer : status ≡ refused_as refusal
+
+-- What is read for a file: a source begins with its preludes. A linked program has none.
+abbrev pub joined_file : List Prelude → Text → Text
+joined_file preludes text = if is_linked text then text else joined preludes text
+
+abbrev pub joined_files : List Prelude → List Text → List Text
+joined_files preludes texts = map (joined_file preludes) texts
+
+-- a fault at a line of that is one of a prelude, or one of the source
+abbrev pub placed : (file kind : ℕ) → Place → Refusal
+placed file kind (prelude.InPrelude number name line) = InPrelude number line kind
+placed file kind (prelude.InSource line) = Source file line kind
+
+abbrev pub told_of : List Prelude → Refusal → Refusal
+told_of preludes (Source file line kind) = placed file kind (told_at preludes line)
+told_of preludes (Link kind name address) = Link kind name address
+told_of preludes (InImage place kind) = InImage place kind
+told_of preludes (InPrelude file line kind) = InPrelude file line kind
+
+-- what files come to, with a fault told where it is
+abbrev pub told_in : {X : Type 0} → List Prelude → Result X Refusal → Result X Refusal
+told_in preludes (Ok x) = Ok x
+told_in preludes (Err refusal) = Err (told_of preludes refusal)
+
+-- the image of a program's files, whose sources have these preludes
+abbrev pub image_for : List Prelude → Dialect → Base → List Text → Result Image Refusal
+image_for preludes dialect base texts = told_in preludes (image_from dialect base (joined_files preludes texts))
+
+-- the answer to a refusal, told where it is
+abbrev pub placed_as : (file kind : ℕ) → Place → Status
+placed_as file kind (prelude.InPrelude number name line) = status.Macros number line kind
+placed_as file kind (prelude.InSource line) = status.Refused file line kind

@@ -3,10 +3,11 @@ use Rattle.std.specs.Prelude.{ℕ, suc, List, [], ◌∷◌, None, Result, Ok, E
 use Rattle.vax_dialect.specs.declared.Dialect.{Dialect}
 use Rattle.vax_image.specs.declared.Base.TheVariants as base
 use Rattle.vax_image.specs.declared.Image.{Image}
+use Rattle.vax_prelude.specs.Preludes.{Prelude}
 use Rattle.vax_program.specs.Program.{Parts, Refusal, parts_of, linked_of}
 use Rattle.vax_cli.specs.Words.{Text}
 use Rattle.vax_command.specs.Jobs.{Users}
-use Rattle.vax_top.specs.Loaded.{and_then, system_parts}
+use Rattle.vax_top.specs.Loaded.{and_then, joined_files, system_parts, told_in}
 
 -- what the first of several comes to, and then those behind it
 abbrev pub and_rest : {X : Type 0} → Result X Refusal → Result (List X) Refusal → Result (List X) Refusal
@@ -32,3 +33,7 @@ linked_under users below =
 abbrev pub together_loaded : Dialect → List Text → Result Users Refusal
 together_loaded dialect texts =
     and_then (all_parts dialect 1 texts) (λ users. and_then (system_parts dialect None) (λ below. linked_under users below))
+
+-- the same of files whose sources have these preludes
+abbrev pub together_for : List Prelude → Dialect → List Text → Result Users Refusal
+together_for preludes dialect texts = told_in preludes (together_loaded dialect (joined_files preludes texts))

@@ -1,10 +1,10 @@
 -- What a call of the program comes to.
-use Rattle.std.specs.Prelude.{◌≡◌, ◌⊎◌, ℕ, Bool, true, false, List, [], ◌∷◌, ◌++◌, length, Option, None, Some, MatchOption, Result, Ok}
-use Rattle.std.specs.Option.{option_map_or}
+use Rattle.std.specs.Prelude.{◌≡◌, ◌⊎◌, ℕ, Bool, true, false, List, [], ◌∷◌, ◌++◌, length, Option, None, Some, MatchOption, Result, Ok, Err}
+use Rattle.std.specs.Option.{option_map}
 use Rattle.vax_outside.specs.Channels.{Channels, only}
 use Rattle.vax_outside.specs.Blocks.{BlockFile}
 use Rattle.vax_outside.specs.declared.traits.Chan.TheVariants as channel
-use Rattle.vax_cli.specs.Words.{Text, Options, Said, bare, run, build, list, listing as source_listing, check, console, debug, trace, save, resume, jobs, work, vectors, about, command_of}
+use Rattle.vax_cli.specs.Words.{Asked, Text, Options, Said, bare, run, build, list, listing as source_listing, check, console, debug, trace, save, resume, jobs, work, vectors, about, command_of}
 use Rattle.vax_cli.specs.Tracing.{Tracing}
 use Rattle.vax_cli.specs.declared.command.Base as words_base
 use Rattle.vax_cli.specs.declared.command.Base.TheVariants as words_bases
@@ -16,23 +16,26 @@ use Rattle.vax_image.specs.File.{File, File2}
 use Rattle.vax_image.specs.declared.Base.{Base}
 use Rattle.vax_image.specs.declared.Base.TheVariants as bases
 use Rattle.vax_image.specs.declared.Image.{Image}
+use Rattle.vax_outside.specs.Directory.{Directory}
+use Rattle.vax_outside.specs.declared.traits.FilesFault.{FilesFault}
+use Rattle.vax_prelude.specs.Preludes.{Prelude, preludes_of, titles_of}
 use Rattle.vax_program.specs.Program.{Refusal}
 use Rattle.vax_listing.specs.Listing.{listing}
 use Rattle.vax_asm_listing.specs.Listed as listed
-use Rattle.vax_command.specs.Around.{Around, Change, Outside, outside_of}
+use Rattle.vax_command.specs.Around.{Around, Change, Outside, outside_of, with_preludes}
 use Rattle.vax_command.specs.Ends.{Ends, EndsSo}
 use Rattle.vax_top.specs.Vectors.{VectorsDo}
 use Rattle.vax_top.specs.Checked.{CheckDoes, checked_names, found_of, is_bare}
-use Rattle.vax_top.specs.Loaded.{IsRefused, bare_loaded, image_from, sources_image, user_loaded}
-use Rattle.vax_command.specs.Reading.{Texts, of_options, texts_of}
+use Rattle.vax_top.specs.Loaded.{IsRefused, bare_loaded, image_for, joined_file, joined_files, sources_image, told_in, user_loaded}
+use Rattle.vax_command.specs.Reading.{ReadEnds, Reads, Texts, of_options, texts_of}
 use Rattle.vax_command.specs.Loaded.{Loaded}
 use Rattle.vax_command.specs.Running.{LacksMemory, RunsSo}
 use Rattle.vax_command.specs.Saving.{SavesSo}
-use Rattle.vax_command.specs.Wanting.{ReadsWanted, Wanted, WantedEnds, plain}
+use Rattle.vax_command.specs.Wanting.{ReadsWanted, Wanted, WantedEnds}
 use Rattle.vax_top.specs.Resumed.{ResumeDoes}
 use Rattle.vax_cli.specs.Jobs.{JobsOptions}
 use Rattle.vax_command.specs.Jobs.{JobsRunSo, JobsTexts, Users, jobs_files, jobs_texts_of, order_text}
-use Rattle.vax_top.specs.Together.{together_loaded}
+use Rattle.vax_top.specs.Together.{together_for}
 use Rattle.vax_command.specs.Holding.{HeldSo}
 use Rattle.vax_command.specs.Tracing.{TracesSo}
 use Rattle.vax_debug_names.specs.declared.Symbol.{Symbol}
@@ -69,9 +72,11 @@ saved_of said = None
 abbrev pub wanted_of : Said → Wanted
 wanted_of said = record { saved = saved_of said; names = reads_of said }
 
--- the files that the words have read, in order
-abbrev pub reads : List Text → Wanted
-reads words = option_map_or wanted_of (command_of words) (plain [])
+-- a file of those that the words have read can't be read, and why: one of macros, or one of the others
+abbrev pub IsUnread : Option Directory → Option Asked → Text × FilesFault → Type 0
+IsUnread contents None why = ⊥
+IsUnread contents (Some asked) why =
+    Reads contents asked.macros (Err why) ⊎ ((texts : List Text) × Reads contents asked.macros (Ok texts) × ReadsWanted contents (wanted_of asked.said) (Err why))
 
 -- files with a fault are refused before any call of the page file
 pub record IsTurnedAway {X : Type 0} (pages : Change BlockFile) (loaded : Result X Refusal) (status : Status) (grown : Channels) : Type 0 where
@@ -118,8 +123,8 @@ TogetherDo outside loaded texts options status grown =
     × JobsRunSo outside programs texts.input (order_text (length texts.programs) texts.order) options status grown)
 
 -- their texts come to these programs, and they ran so
-abbrev pub jobs_of : Outside → JobsTexts → JobsOptions → Status → Channels → Type 0
-jobs_of outside texts options status grown = TogetherDo outside (together_loaded options.dialect texts.programs) texts options status grown
+abbrev pub jobs_of : List Prelude → Outside → JobsTexts → JobsOptions → Status → Channels → Type 0
+jobs_of preludes outside texts options status grown = TogetherDo outside (together_for preludes options.dialect texts.programs) texts options status grown
 
 -- the bytes of an image in a version of the format
 abbrev pub IsFile : Format → Image → Text → Type 0
@@ -189,22 +194,28 @@ IsWriting pages built Writes status grown = LacksMemory pages status grown ⊎ I
 abbrev pub run_of : Outside → (Texts → Result Loaded Refusal) → Texts → Options → Status → Channels → Type 0
 run_of outside loaded texts options status grown = RunDoes outside (loaded texts) texts.input texts.schedule options status grown
 
-abbrev pub bare_programs : Dialect → Texts → Result Loaded Refusal
-bare_programs dialect texts = bare_loaded dialect texts.programs
+-- a program under a system or alone on the machine
+abbrev pub session_joined : Dialect → words_base.Base → List Text → Option Text → Result Loaded Refusal
+session_joined dialect words_bases.User texts system = user_loaded dialect texts system
+session_joined dialect words_bases.Bare texts system = bare_loaded dialect texts
 
-abbrev pub user_programs : Dialect → Texts → Result Loaded Refusal
-user_programs dialect texts = user_loaded dialect texts.programs texts.system
+-- the same of files whose sources have these preludes
+abbrev pub session_loaded : List Prelude → Dialect → words_base.Base → List Text → Option Text → Result Loaded Refusal
+session_loaded preludes dialect linked texts system =
+    told_in preludes (session_joined dialect linked (joined_files preludes texts) (option_map (joined_file preludes) system))
 
--- a session's, under a system or alone on the machine
-abbrev pub session_loaded : Dialect → words_base.Base → List Text → Option Text → Result Loaded Refusal
-session_loaded dialect words_bases.User texts system = user_loaded dialect texts system
-session_loaded dialect words_bases.Bare texts system = bare_loaded dialect texts
+abbrev pub session_programs : List Prelude → Dialect → words_base.Base → Texts → Result Loaded Refusal
+session_programs preludes dialect linked texts = session_loaded preludes dialect linked texts.programs texts.system
 
-abbrev pub session_programs : Dialect → words_base.Base → Texts → Result Loaded Refusal
-session_programs dialect linked texts = session_loaded dialect linked texts.programs texts.system
+abbrev pub bare_programs : List Prelude → Dialect → Texts → Result Loaded Refusal
+bare_programs preludes dialect texts = session_programs preludes dialect words_bases.Bare texts
 
+abbrev pub user_programs : List Prelude → Dialect → Texts → Result Loaded Refusal
+user_programs preludes dialect texts = session_programs preludes dialect words_bases.User texts
+
+-- a workload has no preludes
 abbrev pub work_programs : Dialect → (seed size : ℕ) → Texts → Result Loaded Refusal
-work_programs dialect seed size texts = user_loaded dialect (workload seed size ∷ []) None
+work_programs dialect seed size texts = session_loaded [] dialect words_bases.User (workload seed size ∷ []) None
 
 -- the texts of a session come to these programs, and it went so
 abbrev pub session_of : Outside → (Texts → Result Loaded Refusal) → Texts → Options → Status → Channels → Type 0
@@ -220,52 +231,66 @@ base_for words_bases.User = bases.User
 base_for words_bases.Bare = bases.Bare
 
 -- what a command does with its files: the table of commands
-abbrev pub Does : Change (List Text) → Outside → Said → (files : List Text) → Status → Channels → Type 0
-Does lines outside (bare names options) files status grown =
-    run_of outside (bare_programs options.dialect) (texts_of (length names) options None files) options status grown
-Does lines outside (run names options) files status grown =
-    run_of outside (user_programs options.dialect) (texts_of (length names) options None files) options status grown
-Does lines outside (work seed size options) files status grown =
+abbrev pub Does : List Prelude → Change (List Text) → Outside → Said → (files : List Text) → Status → Channels → Type 0
+Does preludes lines outside (bare names options) files status grown =
+    run_of outside (bare_programs preludes options.dialect) (texts_of (length names) options None files) options status grown
+Does preludes lines outside (run names options) files status grown =
+    run_of outside (user_programs preludes options.dialect) (texts_of (length names) options None files) options status grown
+Does preludes lines outside (work seed size options) files status grown =
     run_of outside (work_programs options.dialect seed size) (texts_of 0 options None files) options status grown
-Does lines outside (build names target format) files status grown =
-    ImageDoes outside.pages (image_from target.dialect (base_for target.base) files) (IsFile format) status grown
-Does lines outside (list names target) files status grown =
-    ImageDoes outside.pages (image_from target.dialect (base_for target.base) files) IsListing status grown
-Does lines outside (source_listing names target) files status grown =
+Does preludes lines outside (build names target format) files status grown =
+    ImageDoes outside.pages (image_for preludes target.dialect (base_for target.base) files) (IsFile format) status grown
+Does preludes lines outside (list names target) files status grown =
+    ImageDoes outside.pages (image_for preludes target.dialect (base_for target.base) files) IsListing status grown
+Does preludes lines outside (source_listing names target) files status grown =
     ImageDoes outside.pages (sources_image target.dialect (base_for target.base) files) (IsSourceListing target.dialect (base_for target.base) files) status grown
-Does lines outside (check names target system) files status grown =
-    CheckDoes outside.pages target.dialect (is_bare (base_for target.base)) (found_of target.dialect (base_for target.base) names files) (checked_names names system) files status grown
-Does lines outside (console names linked script options) files status grown =
-    session_of outside (session_programs options.dialect linked) (texts_of (length names) options (Some script) files) options status grown
-Does lines outside (debug names linked prompts options) files status grown =
+Does preludes lines outside (check names target system) files status grown =
+    let sources = joined_files preludes files in
+    CheckDoes outside.pages target.dialect (is_bare (base_for target.base)) (found_of target.dialect (base_for target.base) names sources) (titles_of preludes (checked_names names system)) sources status grown
+Does preludes lines outside (console names linked script options) files status grown =
+    session_of outside (session_programs preludes options.dialect linked) (texts_of (length names) options (Some script) files) options status grown
+Does preludes lines outside (debug names linked prompts options) files status grown =
     let texts = texts_of (length names) options None files in
-    DebugDoes outside lines (session_programs options.dialect linked texts) (AreSymbols options.dialect (base_for linked) texts.programs) texts prompts options status grown
-Does lines outside (trace names linked tracing options) files status grown =
-    trace_of outside (session_programs options.dialect linked) (texts_of (length names) options None files) tracing options status grown
-Does lines outside (vectors request) files status grown = VectorsDo outside.pages request status grown
-Does lines outside (save names linked options) files status grown =
-    let texts = texts_of (length names) options None files in SaveDoes outside (session_programs options.dialect linked texts) texts options status grown
-Does lines outside (resume name options) files status grown = ResumeDoes outside files options status grown
-Does lines outside (jobs names options) files status grown = jobs_of outside (jobs_texts_of (length names) options files) options status grown
-Does lines outside about files status grown =
+    DebugDoes outside lines (session_programs preludes options.dialect linked texts) (AreSymbols options.dialect (base_for linked) (joined_files preludes texts.programs)) texts prompts options status grown
+Does preludes lines outside (trace names linked tracing options) files status grown =
+    trace_of outside (session_programs preludes options.dialect linked) (texts_of (length names) options None files) tracing options status grown
+Does preludes lines outside (vectors request) files status grown = VectorsDo outside.pages request status grown
+Does preludes lines outside (save names linked options) files status grown =
+    let texts = texts_of (length names) options None files in SaveDoes outside (session_programs preludes options.dialect linked texts) texts options status grown
+Does preludes lines outside (resume name options) files status grown = ResumeDoes outside files options status grown
+Does preludes lines outside (jobs names options) files status grown = jobs_of preludes outside (jobs_texts_of (length names) options files) options status grown
+Does preludes lines outside about files status grown =
     (text : Text) × (status ≡ Done) × (grown ≡ only channel.Out text) × outside.pages.same
 
 -- The answer that a command is to give, and what it is to write: a read ended it, or it has done its work with what was read.
 abbrev pub CommandComes : Around → Said → Status → Channels → Type 0
 CommandComes seen said status grown =
     (WantedEnds seen.files (wanted_of said) status × (grown ≡ refusal_growth status) × seen.pages.same)
-    ⊎ ((files : List Text) × ReadsWanted seen.files.before.told (wanted_of said) (Ok files) × Does seen.lines (outside_of seen) said files status grown)
+    ⊎ ((files : List Text) × ReadsWanted seen.files.before.told (wanted_of said) (Ok files) × Does seen.preludes seen.lines (outside_of seen) said files status grown)
+
+-- The same with the files of macros, which are read first and stand before each of its sources.
+abbrev pub AskedComes : Around → Asked → Status → Channels → Type 0
+AskedComes seen asked status grown =
+    (ReadEnds seen.files asked.macros status × (grown ≡ refusal_growth status) × seen.pages.same)
+    ⊎ ((texts : List Text) × Reads seen.files.before.told asked.macros (Ok texts) × CommandComes (with_preludes (preludes_of asked.macros texts) seen) asked.said status grown)
 
 -- the same for any words: those that aren't plain are refused
 abbrev pub WordsCome : Around → (words : List Text) → Status → Channels → Type 0
 WordsCome seen words status grown =
-    MatchOption (command_of words) ((status ≡ Usage) × (grown ≡ refusal_growth Usage) × seen.pages.same) (λ said. CommandComes seen said status grown)
+    MatchOption (command_of words) ((status ≡ Usage) × (grown ≡ refusal_growth Usage) × seen.pages.same) (λ asked. AskedComes seen asked status grown)
 
 -- A command has its answer: an answer and a growth of the channels are meant by the table, and these it has given and written, but for a write that failed.
 pub record Carries (seen : Around) (said : Said) (result : Status) : Type 0 where
   pub meant : Status
   pub grown : Channels
   pub comes : CommandComes seen said meant grown
+  pub ends : Ends seen.sink meant grown result
+
+-- the same with the files of macros
+pub record CarriesAsked (seen : Around) (asked : Asked) (result : Status) : Type 0 where
+  pub meant : Status
+  pub grown : Channels
+  pub comes : AskedComes seen asked meant grown
   pub ends : Ends seen.sink meant grown result
 
 -- the same for any words
@@ -276,6 +301,10 @@ pub record Comes (seen : Around) (words : List Text) (result : Status) : Type 0 
   pub ends : Ends seen.sink meant grown result
 
 -- the words of a session with a debugger
-abbrev pub asks_debug : Option Said → Bool
-asks_debug (Some (debug names linked prompts options)) = true
-asks_debug _ = false
+abbrev pub is_debug : Said → Bool
+is_debug (debug names linked prompts options) = true
+is_debug _ = false
+
+abbrev pub asks_debug : Option Asked → Bool
+asks_debug (Some asked) = is_debug asked.said
+asks_debug None = false

@@ -1,19 +1,22 @@
 //! The command `check`.
 ghost use Rattle.std.specs.Prelude.{◌≡◌, ◌≤◌, ◌+◌, ◌∷◌, [], ℕ, List, IfOk, Some, drop, length, take};
 ghost use Rattle.std.specs.Option.{option_copied, option_map};
+ghost use Rattle.vax_check.specs.View.{titles_of};
 ghost use Rattle.vax_cli.specs.Said.{names_of};
 ghost use Rattle.vax_cli.specs.Words.{check};
-ghost use Rattle.vax_command.specs.Around.{around, change, untouched};
+ghost use Rattle.vax_command.specs.Around.{around, change, untouched, with_preludes};
 ghost use Rattle.vax_command.specs.Ends.{Admits, Ends, EndsSo};
 ghost use Rattle.vax_command.specs.Loaded.{loaded_seen};
 ghost use Rattle.vax_command.specs.ReadingView.{texts as texts_seen};
 ghost use Rattle.vax_outside.specs.Channels.{only};
 ghost use Rattle.vax_program.specs.View.{Answers, refusal_seen};
+ghost use Rattle.vax_prelude.specs.View.{preludes_seen};
 ghost use Rattle.vax_top.specs.Checked.{IsChecking, answer_of, checked_names, found_in, is_bare, refusal_of};
-ghost use Rattle.vax_top.specs.Loaded.{image_from, user_loaded};
+ghost use Rattle.vax_top.specs.Loaded.{image_from, joined_files, user_loaded};
 ghost use Rattle.vax_top.specs.Top.{Carries, base_for};
 
 use crate::commands::base_for;
+use crate::preludes::join_files;
 use std::alloc::{AllocError, Global};
 use vax_check::{Files as Checked, text_of};
 use vax_cli::Target;
@@ -21,6 +24,7 @@ use vax_command::{Part, Programs, Status, load_files, refuse};
 use vax_dialect::Dialect;
 use vax_image::Image;
 use vax_outside::{Chan, Failed, Files, Sink, put_all};
+use vax_prelude::Prelude;
 use vax_program::{ProgramError, Refusal, link_parts, read_parts};
 use vax_space::NoMemory;
 
@@ -159,7 +163,8 @@ fn tell_of<K: Sink>(
     ensures { EndsSo (change K.faults K.contents sink.old sink.new)
         (IsChecking untouched files.entry.dialect files.entry.bare
         (option_map (λ r. refusal_seen r.now) refusal.entry)
-        (names_of files.entry.names.now) (texts_seen files.entry.texts.now)) result }
+        (titles_of (preludes_seen files.entry.preludes.now) files.entry.names.now)
+        (texts_seen files.entry.texts.now)) result }
 {
     match text_of(alloc, files, refusal) {
         Ok(text) => show_as(&text, answer_of(refusal), sink),
@@ -183,7 +188,7 @@ fn tell<K: Sink>(
         EndsSo (change K.faults K.contents sink.old sink.new)
         (IsChecking untouched files.entry.dialect files.entry.bare
         (found_in files.entry.dialect base (take count texts) (drop count texts))
-        (names_of files.entry.names.now) texts) result }
+        (titles_of (preludes_seen files.entry.preludes.now) files.entry.names.now) texts) result }
 {
     let (own, system) = files.texts.split_at(count);
     match find(alloc, files.dialect, base, own, system) {
@@ -221,10 +226,45 @@ fn all_names<'a>(
     Ok(all)
 }
 
+/// Tells what keeps files with these names, of which the first so many are the program's, from giving a program.
+fn check_read<K: Sink>(
+    alloc: Global,
+    preludes: &[Prelude<'_>],
+    target: Target,
+    count: usize,
+    names: &[&str],
+    texts: &[Vec<u8>],
+    sink: &mut K,
+) -> Status
+    requires some { 1 ≤ count }
+    requires few { count ≤ 8 }
+    requires all { count ≤ length texts.now }
+    requires one { length texts.now ≤ count + 1 }
+    ensures { let sources = joined_files (preludes_seen preludes.now) (texts_seen texts.now) in
+        EndsSo (change K.faults K.contents sink.old sink.new)
+        (IsChecking untouched target.dialect (is_bare (base_for target.base))
+        (found_in target.dialect (base_for target.base) (take count sources) (drop count sources))
+        (titles_of (preludes_seen preludes.now) names.now) sources) result }
+{
+    let Ok(joined) = join_files(alloc, preludes, texts) else {
+        return refuse(Status::NoMemory, sink);
+    };
+    let base = base_for(target.base);
+    let checked = Checked {
+        dialect: target.dialect,
+        preludes,
+        names,
+        texts: &joined,
+        bare: is_bare(base),
+    };
+    tell(alloc, base, count, checked, sink)
+}
+
 /// `check`: tells what keeps a program from being built, and nothing where it is built.
 pub(crate) fn check<S: Files, K: Sink>(
     alloc: Global,
     names: &[&str],
+    preludes: &[Prelude<'_>],
     target: Target,
     system: Option<&str>,
     files: &mut S,
@@ -232,10 +272,10 @@ pub(crate) fn check<S: Files, K: Sink>(
 ) -> Status
     requires some { 1 ≤ length names.now }
     requires few { length names.now ≤ 8 }
-    ensures carries { Carries (around
+    ensures carries { Carries (with_preludes (preludes_seen preludes.now) (around
         (change S.faults S.contents files.old files.new)
         (change K.faults K.contents sink.old sink.new)
-        untouched)
+        untouched))
         (check (names_of names.now) target (option_copied system.entry)) result }
     ensures read_failed { Admits (S.faults files.old) (S.faults files.new) Status.ReadFault result }
 {
@@ -243,16 +283,7 @@ pub(crate) fn check<S: Files, K: Sink>(
         return refuse(Status::NoMemory, sink);
     };
     match load_files(alloc, &all, files) {
-        Ok(texts) => {
-            let base = base_for(target.base);
-            let checked = Checked {
-                dialect: target.dialect,
-                names: &all,
-                texts: &texts,
-                bare: is_bare(base),
-            };
-            tell(alloc, base, names.len(), checked, sink)
-        }
+        Ok(texts) => check_read(alloc, preludes, target, names.len(), &all, &texts, sink),
         Err(status) => refuse(status, sink),
     }
 }

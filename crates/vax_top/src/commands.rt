@@ -6,14 +6,15 @@ ghost use Rattle.vax_image.specs.Image.{IsImage};
 ghost use Rattle.vax_listing.specs.Listing.{listing};
 ghost use Rattle.vax_cli.specs.Words.{bare, build, list, listing as source_listing, run, work};
 ghost use Rattle.vax_cli.specs.Said.{AreWithin, names_of, options as said_options};
-ghost use Rattle.vax_command.specs.Around.{around, change, outside, untouched};
+ghost use Rattle.vax_command.specs.Around.{around, change, outside, untouched, with_preludes};
 ghost use Rattle.vax_command.specs.Ends.{Admits, Ends};
-ghost use Rattle.vax_top.specs.Loaded.{user_loaded};
+ghost use Rattle.vax_prelude.specs.View.{preludes_seen};
 ghost use Rattle.vax_command.specs.Reading.{file_limit};
 ghost use Rattle.vax_command.specs.ReadingView.{bytes_of, texts as texts_seen};
-ghost use Rattle.vax_top.specs.Top.{Carries, IsFile, RanOf, base_for};
+ghost use Rattle.vax_top.specs.Top.{Carries, IsFile, RanOf, base_for, session_loaded};
 
-use crate::programs::{alone, load_bare, load_image, load_user};
+use crate::console::load_session;
+use crate::programs::{alone, load_image_for};
 use crate::sources::load_listing;
 use std::alloc::Global;
 use vax_cli::{Base, Format, Options, Target};
@@ -22,6 +23,7 @@ use vax_guest::generate;
 use vax_image::{Image, write, write2};
 use vax_listing::write_listing;
 use vax_outside::{Chan, Failed, Files, PageFile, Sink, put_all};
+use vax_prelude::Prelude;
 use vax_space::NoMemory;
 
 /// Writes a text to Out.
@@ -39,6 +41,7 @@ pub(crate) fn show<K: Sink>(text: &[u8], sink: &mut K) -> Status
 pub(crate) fn run_bare<S: Files, K: Sink, F: PageFile>(
     alloc: Global,
     names: &[&str],
+    preludes: &[Prelude<'_>],
     options: &Options<'_>,
     files: &mut S,
     sink: &mut K,
@@ -47,10 +50,10 @@ pub(crate) fn run_bare<S: Files, K: Sink, F: PageFile>(
     requires some { 1 ≤ length names.now }
     requires few { length names.now ≤ 8 }
     requires within { AreWithin (said_options options.now) }
-    ensures carries { Carries (around
+    ensures carries { Carries (with_preludes (preludes_seen preludes.now) (around
         (change S.faults S.contents files.old files.new)
         (change K.faults K.contents sink.old sink.new)
-        (change F.faults F.contents pages.old pages.new))
+        (change F.faults F.contents pages.old pages.new)))
         (bare (names_of names.now) (said_options options.now)) result }
     ensures read_failed { Admits (S.faults files.old) (S.faults files.new) Status.ReadFault result }
     ensures page_failed { Admits (F.faults pages.old) (F.faults pages.new) Status.PageFault result }
@@ -60,11 +63,12 @@ pub(crate) fn run_bare<S: Files, K: Sink, F: PageFile>(
         Err(status) => return refuse(status, sink),
     };
     let Given {
+        system,
         input,
         schedule,
         ..
     } = given;
-    match load_bare(alloc, options.dialect, &texts) {
+    match load_session(alloc, preludes, options.dialect, Base::Bare, &texts, system) {
         Ok(programs) => run_programs(alloc, &programs, input, &schedule, options, sink, pages),
         Err(status) => refuse(status, sink),
     }
@@ -73,6 +77,7 @@ pub(crate) fn run_bare<S: Files, K: Sink, F: PageFile>(
 /// Runs a program in user mode, of the texts of its files, under a system, and refuses where they come to none.
 fn run_over<K: Sink, F: PageFile>(
     alloc: Global,
+    preludes: &[Prelude<'_>],
     texts: &[Vec<u8>],
     given: Given,
     options: &Options<'_>,
@@ -87,8 +92,8 @@ fn run_over<K: Sink, F: PageFile>(
     ensures ran { RanOf
         (outside (change K.faults K.contents sink.old sink.new)
         (change F.faults F.contents pages.old pages.new))
-        (user_loaded (said_options options.now).dialect (texts_seen texts.now)
-        (bytes_of given.system))
+        (session_loaded (preludes_seen preludes.now) (said_options options.now).dialect Base.User
+        (texts_seen texts.now) (bytes_of given.system))
         given.input.items given.schedule.items (said_options options.now) result }
     ensures failed { Admits (F.faults pages.old) (F.faults pages.new) Status.PageFault result }
 {
@@ -98,7 +103,7 @@ fn run_over<K: Sink, F: PageFile>(
         schedule,
         ..
     } = given;
-    match load_user(alloc, options.dialect, texts, system) {
+    match load_session(alloc, preludes, options.dialect, Base::User, texts, system) {
         Ok(programs) => run_programs(alloc, &programs, input, &schedule, options, sink, pages),
         Err(status) => refuse(status, sink),
     }
@@ -108,6 +113,7 @@ fn run_over<K: Sink, F: PageFile>(
 pub(crate) fn run_user<S: Files, K: Sink, F: PageFile>(
     alloc: Global,
     names: &[&str],
+    preludes: &[Prelude<'_>],
     options: &Options<'_>,
     files: &mut S,
     sink: &mut K,
@@ -116,16 +122,16 @@ pub(crate) fn run_user<S: Files, K: Sink, F: PageFile>(
     requires some { 1 ≤ length names.now }
     requires few { length names.now ≤ 8 }
     requires within { AreWithin (said_options options.now) }
-    ensures carries { Carries (around
+    ensures carries { Carries (with_preludes (preludes_seen preludes.now) (around
         (change S.faults S.contents files.old files.new)
         (change K.faults K.contents sink.old sink.new)
-        (change F.faults F.contents pages.old pages.new))
+        (change F.faults F.contents pages.old pages.new)))
         (run (names_of names.now) (said_options options.now)) result }
     ensures read_failed { Admits (S.faults files.old) (S.faults files.new) Status.ReadFault result }
     ensures page_failed { Admits (F.faults pages.old) (F.faults pages.new) Status.PageFault result }
 {
     match load_run(alloc, names, options, None, files) {
-        Ok((texts, given)) => run_over(alloc, &texts, given, options, sink, pages),
+        Ok((texts, given)) => run_over(alloc, preludes, &texts, given, options, sink, pages),
         Err(status) => refuse(status, sink),
     }
 }
@@ -171,7 +177,7 @@ pub(crate) fn run_work<S: Files, K: Sink, F: PageFile>(
         Err(status) => return refuse(status, sink),
     };
     match workload_files(alloc, seed, size) {
-        Ok(texts) => run_over(alloc, &texts, given, options, sink, pages),
+        Ok(texts) => run_over(alloc, &[], &texts, given, options, sink, pages),
         Err(NoMemory) => refuse(Status::NoMemory, sink),
     }
 }
@@ -201,6 +207,7 @@ fn image_bytes(alloc: Global, format: Format, image: &Image) -> Result<Vec<u8>, 
 pub(crate) fn build<S: Files, K: Sink>(
     alloc: Global,
     names: &[&str],
+    preludes: &[Prelude<'_>],
     target: Target,
     format: Format,
     files: &mut S,
@@ -208,10 +215,10 @@ pub(crate) fn build<S: Files, K: Sink>(
 ) -> Status
     requires some { 1 ≤ length names.now }
     requires few { length names.now ≤ 8 }
-    ensures carries { Carries (around
+    ensures carries { Carries (with_preludes (preludes_seen preludes.now) (around
         (change S.faults S.contents files.old files.new)
         (change K.faults K.contents sink.old sink.new)
-        untouched)
+        untouched))
         (build (names_of names.now) target format) result }
     ensures read_failed { Admits (S.faults files.old) (S.faults files.new) Status.ReadFault result }
 {
@@ -219,7 +226,13 @@ pub(crate) fn build<S: Files, K: Sink>(
         Ok(texts) => texts,
         Err(status) => return refuse(status, sink),
     };
-    let image = match load_image(alloc, target.dialect, base_for(target.base), &texts) {
+    let image = match load_image_for(
+        alloc,
+        preludes,
+        target.dialect,
+        base_for(target.base),
+        &texts,
+    ) {
         Ok(image) => image,
         Err(status) => return refuse(status, sink),
     };
@@ -244,16 +257,17 @@ fn show_listing<K: Sink>(image: &Image, sink: &mut K) -> Status
 pub(crate) fn list<S: Files, K: Sink>(
     alloc: Global,
     names: &[&str],
+    preludes: &[Prelude<'_>],
     target: Target,
     files: &mut S,
     sink: &mut K,
 ) -> Status
     requires some { 1 ≤ length names.now }
     requires few { length names.now ≤ 8 }
-    ensures carries { Carries (around
+    ensures carries { Carries (with_preludes (preludes_seen preludes.now) (around
         (change S.faults S.contents files.old files.new)
         (change K.faults K.contents sink.old sink.new)
-        untouched)
+        untouched))
         (list (names_of names.now) target) result }
     ensures read_failed { Admits (S.faults files.old) (S.faults files.new) Status.ReadFault result }
 {
@@ -261,7 +275,13 @@ pub(crate) fn list<S: Files, K: Sink>(
         Ok(texts) => texts,
         Err(status) => return refuse(status, sink),
     };
-    match load_image(alloc, target.dialect, base_for(target.base), &texts) {
+    match load_image_for(
+        alloc,
+        preludes,
+        target.dialect,
+        base_for(target.base),
+        &texts,
+    ) {
         Ok(image) => show_listing(&image, sink),
         Err(status) => refuse(status, sink),
     }

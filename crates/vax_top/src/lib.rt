@@ -7,6 +7,7 @@ mod console;
 mod debugging;
 mod jobs;
 mod laws;
+mod preludes;
 mod programs;
 mod saving;
 mod sources;

@@ -2,18 +2,21 @@
 ghost use Rattle.std.specs.Prelude.{◌≡◌, ◌≤◌, ◌∷◌, [], IfOk, length};
 ghost use Rattle.vax_image.specs.Image.{IsImage};
 ghost use Rattle.vax_image.specs.declared.Base.TheVariants as base;
+ghost use Rattle.vax_prelude.specs.View.{preludes_seen};
 ghost use Rattle.vax_program.specs.Program.{parts_of};
 ghost use Rattle.vax_program.specs.View.{IsSound, base_of, parts_seen};
-ghost use Rattle.vax_top.specs.Loaded.{bare_loaded, image_from, linked_over, system_parts, user_loaded};
+ghost use Rattle.vax_top.specs.Loaded.{bare_loaded, image_for, image_from, linked_over, system_parts, user_loaded};
 ghost use Rattle.vax_command.specs.Loaded.{AreSound, loaded_seen};
 ghost use Rattle.vax_top.specs.LoadedView.{Answers, Loads};
 ghost use Rattle.vax_command.specs.ReadingView.{bytes_of, texts};
 
+use crate::preludes::{join_files, tell_at};
 use std::alloc::{AllocError, Global};
 use vax_command::{Programs, Status};
 use vax_dialect::Dialect;
 use vax_guest::executive;
 use vax_image::{Base, Image};
+use vax_prelude::Prelude;
 use vax_program::{Parts, ProgramError, Refusal, link_parts, read_parts};
 
 /// The answer to an error.
@@ -41,7 +44,7 @@ pub(crate) fn answer_to(error: ProgramError) -> Status
 }
 
 /// The image of a program's files for a base; its sources are of a dialect.
-pub(crate) fn load_image(
+fn load_image(
     alloc: Global,
     dialect: Dialect,
     base: Base,
@@ -60,6 +63,31 @@ pub(crate) fn load_image(
     match link_parts(alloc, parts) {
         Ok(image) => Ok(image),
         Err(error) => Err(answer_to(error)),
+    }
+}
+
+/// The same of files whose sources have preludes.
+#[tactic(auto, using(crate::proofs::Retelling::told_loads, crate::proofs::Retelling::told_refused))]
+pub(crate) fn load_image_for(
+    alloc: Global,
+    preludes: &[Prelude<'_>],
+    dialect: Dialect,
+    base: Base,
+    files: &[Vec<u8>],
+) -> Result<Image, Status>
+    requires some { 1 ≤ length files.now }
+    requires few { length files.now ≤ 8 }
+    ensures image { Loads (λ image. image) result
+        (image_for (preludes_seen preludes.now) dialect base (texts files.now)) }
+    ensures sound { IfOk result IsImage }
+    ensures base { IfOk result (λ image. image.base ≡ base) }
+{
+    let Ok(joined) = join_files(alloc, preludes, files) else {
+        return Err(Status::NoMemory);
+    };
+    match load_image(alloc, dialect, base, &joined) {
+        Ok(image) => Ok(image),
+        Err(status) => Err(tell_at(preludes, status)),
     }
 }
 

@@ -2,8 +2,9 @@
 ghost use Rattle.std.specs.Prelude.{◌≤◌, length};
 ghost use Rattle.vax_cli.specs.Words.{resume, save};
 ghost use Rattle.vax_cli.specs.Said.{AreWithin, names_of, options as said_options};
-ghost use Rattle.vax_command.specs.Around.{around, change};
+ghost use Rattle.vax_command.specs.Around.{around, change, with_preludes};
 ghost use Rattle.vax_command.specs.Ends.{Admits};
+ghost use Rattle.vax_prelude.specs.View.{preludes_seen};
 ghost use Rattle.vax_top.specs.Top.{Carries};
 
 use crate::console::load_session;
@@ -11,11 +12,13 @@ use std::alloc::Global;
 use vax_cli::{Base, Options};
 use vax_command::{Given, Status, load_run, load_saved, refuse, resume_run, save_run};
 use vax_outside::{Files, PageFile, Sink};
+use vax_prelude::Prelude;
 
 /// `save`: runs a program, and saves its state where a limit stops it.
 pub(crate) fn run_save<S: Files, K: Sink, F: PageFile>(
     alloc: Global,
     names: &[&str],
+    preludes: &[Prelude<'_>],
     base: Base,
     options: &Options<'_>,
     files: &mut S,
@@ -25,10 +28,10 @@ pub(crate) fn run_save<S: Files, K: Sink, F: PageFile>(
     requires some { 1 ≤ length names.now }
     requires few { length names.now ≤ 8 }
     requires within { AreWithin (said_options options.now) }
-    ensures carries { Carries (around
+    ensures carries { Carries (with_preludes (preludes_seen preludes.now) (around
         (change S.faults S.contents files.old files.new)
         (change K.faults K.contents sink.old sink.new)
-        (change F.faults F.contents pages.old pages.new))
+        (change F.faults F.contents pages.old pages.new)))
         (save (names_of names.now) base (said_options options.now)) result }
     ensures read_failed { Admits (S.faults files.old) (S.faults files.new) Status.ReadFault result }
     ensures page_failed { Admits (F.faults pages.old) (F.faults pages.new) Status.PageFault result }
@@ -43,7 +46,7 @@ pub(crate) fn run_save<S: Files, K: Sink, F: PageFile>(
         schedule,
         ..
     } = given;
-    match load_session(alloc, options.dialect, base, &texts, system) {
+    match load_session(alloc, preludes, options.dialect, base, &texts, system) {
         Ok(programs) => save_run(alloc, &programs, input, &schedule, options, sink, pages),
         Err(status) => refuse(status, sink),
     }

@@ -2,21 +2,24 @@
 ghost use Rattle.std.specs.Prelude.{◌≡◌, ◌≤◌, IfOk, length, map};
 ghost use Rattle.std.specs.List.{All};
 ghost use Rattle.vax_image.specs.declared.Base.TheVariants as base;
+ghost use Rattle.vax_prelude.specs.View.{preludes_seen};
 ghost use Rattle.vax_program.specs.Program.{linked_of, parts_of};
 ghost use Rattle.vax_program.specs.View.{IsSound, base_of, parts_seen};
 ghost use Rattle.vax_together.specs.Starting.{IsUser};
 ghost use Rattle.vax_command.specs.JobsView.{AreTogether, together_seen};
 ghost use Rattle.vax_command.specs.ReadingView.{texts as texts_seen};
 ghost use Rattle.vax_top.specs.LoadedView.{Loads};
-ghost use Rattle.vax_top.specs.Together.{all_linked, all_parts, linked_under, together_loaded};
+ghost use Rattle.vax_top.specs.Together.{all_linked, all_parts, linked_under, together_for, together_loaded};
 ghost use Rattle.vax_top.specs.TogetherView.{IsForUser};
 
+use crate::preludes::{join_files, tell_at};
 use crate::programs::{answer_to, read_system};
 use std::alloc::Global;
 use std::collections::VecDeque;
 use vax_command::{Status, Together};
 use vax_dialect::Dialect;
 use vax_image::{Base, Image};
+use vax_prelude::Prelude;
 use vax_program::{Parts, link_parts, read_parts};
 
 /// The parts of one program, whose file has this number.
@@ -101,11 +104,7 @@ fn link_under(alloc: Global, users: Vec<Parts>, below: Parts) -> Result<Together
 }
 
 /// Programs in user mode and the executive: all are assembled before any is linked.
-pub(crate) fn load_together(
-    alloc: Global,
-    dialect: Dialect,
-    texts: &[Vec<u8>],
-) -> Result<Together, Status>
+fn load_together(alloc: Global, dialect: Dialect, texts: &[Vec<u8>]) -> Result<Together, Status>
     requires some { 1 ≤ length texts.now }
     requires few { length texts.now ≤ 8 }
     ensures loads { Loads together_seen result (together_loaded dialect (texts_seen texts.now)) }
@@ -118,4 +117,28 @@ pub(crate) fn load_together(
         Err(status) => return Err(status),
     };
     link_under(alloc, users, below)
+}
+
+/// The same of files whose sources have preludes.
+#[tactic(auto, using(crate::proofs::Retelling::told_loads, crate::proofs::Retelling::told_refused))]
+pub(crate) fn load_together_for(
+    alloc: Global,
+    preludes: &[Prelude<'_>],
+    dialect: Dialect,
+    texts: &[Vec<u8>],
+) -> Result<Together, Status>
+    requires some { 1 ≤ length texts.now }
+    requires few { length texts.now ≤ 8 }
+    ensures loads { Loads together_seen result
+        (together_for (preludes_seen preludes.now) dialect (texts_seen texts.now)) }
+    ensures sound { IfOk result AreTogether }
+    ensures count { IfOk result (λ t. length t.users.items ≡ length texts.now) }
+{
+    let Ok(joined) = join_files(alloc, preludes, texts) else {
+        return Err(Status::NoMemory);
+    };
+    match load_together(alloc, dialect, &joined) {
+        Ok(programs) => Ok(programs),
+        Err(status) => Err(tell_at(preludes, status)),
+    }
 }

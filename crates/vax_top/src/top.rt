@@ -1,16 +1,16 @@
 //! The top call.
-ghost use Rattle.std.specs.Prelude.{◌≡◌, ◌≢◌, ◌⊎◌, ℕ, List, None, Some, Err, IfSome, false};
+ghost use Rattle.std.specs.Prelude.{◌≡◌, ◌≢◌, ◌⊎◌, ℕ, List, None, Some, IfSome, false};
 ghost use Rattle.vax_outside.specs.Faults.{Rose};
 ghost use Rattle.vax_outside.specs.declared.traits.FilesFault.TheVariants as files_fault;
 ghost use Rattle.vax_outside.specs.Channels.{Grew, only};
 ghost use Rattle.vax_outside.specs.declared.traits.Chan.TheVariants.{Report};
-ghost use Rattle.vax_cli.specs.Said.{IsWithin, said, texts};
+ghost use Rattle.vax_cli.specs.Said.{IsAskedWithin, IsWithin, asked as asked_seen, said, texts};
 ghost use Rattle.vax_cli.specs.Words.{command_of};
-ghost use Rattle.vax_command.specs.Around.{around, beside, change};
+ghost use Rattle.vax_command.specs.Around.{around, beside, change, with_preludes};
 ghost use Rattle.vax_command.specs.Ends.{Admits, EndsSo};
 ghost use Rattle.vax_command.specs.Status.{refusal};
-ghost use Rattle.vax_command.specs.Wanting.{ReadsWanted};
-ghost use Rattle.vax_top.specs.Top.{Carries, Comes, IsAbout, asks_debug, reads};
+ghost use Rattle.vax_prelude.specs.View.{preludes_seen};
+ghost use Rattle.vax_top.specs.Top.{Carries, CarriesAsked, Comes, IsAbout, IsUnread, asks_debug, is_debug};
 
 use crate::checking::check;
 use crate::commands::{build, list, list_sources, run_bare, run_user, run_work, show};
@@ -21,10 +21,11 @@ use crate::saving::{run_resume, run_save};
 use crate::tracing::run_trace;
 use crate::vectors::write_vectors;
 use std::alloc::Global;
-use vax_cli::{Command, WordsError, command_of};
-use vax_command::{Status, refuse};
+use vax_cli::{Asked, Command, WordsError, command_of};
+use vax_command::{Status, load_files, refuse};
 use vax_input::Lines;
 use vax_outside::{Files, PageFile, Sink};
+use vax_prelude::{Prelude, preludes_of};
 
 /// Writes the text about the program that the words ask for to Out.
 fn tell<K: Sink>(alloc: Global, words: &[String], sink: &mut K) -> Status
@@ -40,6 +41,7 @@ fn tell<K: Sink>(alloc: Global, words: &[String], sink: &mut K) -> Status
 fn carry_out<S: Files, L: Lines, K: Sink, F: PageFile>(
     alloc: Global,
     words: &[String],
+    preludes: &[Prelude<'_>],
     command: Command<'_>,
     files: &mut S,
     lines: &mut L,
@@ -47,12 +49,13 @@ fn carry_out<S: Files, L: Lines, K: Sink, F: PageFile>(
     pages: &mut F,
 ) -> Status
     requires within { IsWithin (said command) }
-    ensures carries { Carries (beside (change L.faults L.rest lines.old lines.new) (around
+    ensures carries { Carries (with_preludes (preludes_seen preludes.now)
+        (beside (change L.faults L.rest lines.old lines.new) (around
         (change S.faults S.contents files.old files.new)
         (change K.faults K.contents sink.old sink.new)
-        (change F.faults F.contents pages.old pages.new)))
+        (change F.faults F.contents pages.old pages.new))))
         (said command.entry) result }
-    ensures left { asks_debug (Some (said command.entry)) ≡ false → lines.new ≡ lines.old }
+    ensures left { is_debug (said command.entry) ≡ false → lines.new ≡ lines.old }
     ensures read_failed { Admits (S.faults files.old) (S.faults files.new) Status.ReadFault result }
     ensures page_failed { Admits (F.faults pages.old) (F.faults pages.new) Status.PageFault result }
     ensures line_failed { Admits (L.faults lines.old) (L.faults lines.new) Status.LineFault result }
@@ -61,16 +64,40 @@ fn carry_out<S: Files, L: Lines, K: Sink, F: PageFile>(
         Command::Bare {
             files: names,
             options,
-        } => run_bare(alloc, names.as_slice(), &options, files, sink, pages),
+        } => run_bare(
+            alloc,
+            names.as_slice(),
+            preludes,
+            &options,
+            files,
+            sink,
+            pages,
+        ),
         Command::Run {
             files: names,
             options,
-        } => run_user(alloc, names.as_slice(), &options, files, sink, pages),
+        } => run_user(
+            alloc,
+            names.as_slice(),
+            preludes,
+            &options,
+            files,
+            sink,
+            pages,
+        ),
         Command::Build {
             files: names,
             target,
             format,
-        } => build(alloc, names.as_slice(), target, format, files, sink),
+        } => build(
+            alloc,
+            names.as_slice(),
+            preludes,
+            target,
+            format,
+            files,
+            sink,
+        ),
         Command::Work {
             seed,
             size,
@@ -81,7 +108,7 @@ fn carry_out<S: Files, L: Lines, K: Sink, F: PageFile>(
         Command::List {
             files: names,
             target,
-        } => list(alloc, names.as_slice(), target, files, sink),
+        } => list(alloc, names.as_slice(), preludes, target, files, sink),
         Command::Listing {
             files: names,
             target,
@@ -90,7 +117,15 @@ fn carry_out<S: Files, L: Lines, K: Sink, F: PageFile>(
             files: names,
             target,
             system,
-        } => check(alloc, names.as_slice(), target, system, files, sink),
+        } => check(
+            alloc,
+            names.as_slice(),
+            preludes,
+            target,
+            system,
+            files,
+            sink,
+        ),
         Command::Console {
             files: names,
             base,
@@ -99,6 +134,7 @@ fn carry_out<S: Files, L: Lines, K: Sink, F: PageFile>(
         } => run_console(
             alloc,
             names.as_slice(),
+            preludes,
             base,
             script,
             &options,
@@ -114,6 +150,7 @@ fn carry_out<S: Files, L: Lines, K: Sink, F: PageFile>(
         } => run_debug(
             alloc,
             names.as_slice(),
+            preludes,
             base,
             prompt,
             &options,
@@ -130,6 +167,7 @@ fn carry_out<S: Files, L: Lines, K: Sink, F: PageFile>(
         } => run_trace(
             alloc,
             names.as_slice(),
+            preludes,
             base,
             &tracing,
             &options,
@@ -141,15 +179,64 @@ fn carry_out<S: Files, L: Lines, K: Sink, F: PageFile>(
             files: names,
             base,
             options,
-        } => run_save(alloc, names.as_slice(), base, &options, files, sink, pages),
+        } => run_save(
+            alloc,
+            names.as_slice(),
+            preludes,
+            base,
+            &options,
+            files,
+            sink,
+            pages,
+        ),
         Command::Resume { name, options } => {
             run_resume(alloc, name, &options, files, sink, pages)
         }
         Command::Jobs {
             files: names,
             options,
-        } => run_together(alloc, names.as_slice(), &options, files, sink, pages),
+        } => run_together(
+            alloc,
+            names.as_slice(),
+            preludes,
+            &options,
+            files,
+            sink,
+            pages,
+        ),
     }
+}
+
+/// Reads the files of macros, and carries a command out behind them.
+fn carry_asked<S: Files, L: Lines, K: Sink, F: PageFile>(
+    alloc: Global,
+    words: &[String],
+    asked: Asked<'_>,
+    files: &mut S,
+    lines: &mut L,
+    sink: &mut K,
+    pages: &mut F,
+) -> Status
+    requires within { IsAskedWithin (asked_seen asked) }
+    ensures carries { CarriesAsked (beside (change L.faults L.rest lines.old lines.new) (around
+        (change S.faults S.contents files.old files.new)
+        (change K.faults K.contents sink.old sink.new)
+        (change F.faults F.contents pages.old pages.new)))
+        (asked_seen asked.entry) result }
+    ensures left { asks_debug (Some (asked_seen asked.entry)) ≡ false → lines.new ≡ lines.old }
+    ensures read_failed { Admits (S.faults files.old) (S.faults files.new) Status.ReadFault result }
+    ensures page_failed { Admits (F.faults pages.old) (F.faults pages.new) Status.PageFault result }
+    ensures line_failed { Admits (L.faults lines.old) (L.faults lines.new) Status.LineFault result }
+{
+    let Asked { command, macros } = asked;
+    let texts = match load_files(alloc, macros.as_slice(), files) {
+        Ok(texts) => texts,
+        Err(status) => return refuse(status, sink),
+    };
+    let Ok(preludes) = preludes_of(alloc, macros.as_slice(), &texts) else {
+        return refuse(Status::NoMemory, sink);
+    };
+    carry_out(alloc, words, &preludes, command, files, lines, sink, pages)
 }
 
 /// Reads the words, and carries out the command that they ask for.
@@ -174,7 +261,7 @@ fn perform<S: Files, L: Lines, K: Sink, F: PageFile>(
     match command_of(alloc, words) {
         Err(WordsError::Usage) => refuse(Status::Usage, sink),
         Err(WordsError::NoMemory) => refuse(Status::NoMemory, sink),
-        Ok(command) => carry_out(alloc, words, command, files, lines, sink, pages),
+        Ok(asked) => carry_asked(alloc, words, asked, files, lines, sink, pages),
     }
 }
 
@@ -197,11 +284,11 @@ pub fn vax_main<S: Files, L: Lines, K: Sink, F: PageFile>(
     ensures not_plain { command_of (texts words.now) ≡ None →
         (result ≡ Status.Usage) ⊎ (result ≡ Status.WriteFault) }
     ensures missing { (name : List ℕ) → result ≡ Status.Missing name →
-        ReadsWanted (S.contents files.old) (reads (texts words.now))
-        (Err (name, files_fault.Missing)) }
+        IsUnread (S.contents files.old) (command_of (texts words.now))
+        (name, files_fault.Missing) }
     ensures large { (name : List ℕ) → result ≡ Status.Large name →
-        ReadsWanted (S.contents files.old) (reads (texts words.now))
-        (Err (name, files_fault.Large)) }
+        IsUnread (S.contents files.old) (command_of (texts words.now))
+        (name, files_fault.Large) }
     ensures read { result ≡ Status.ReadFault → Rose (S.faults files.old) (S.faults files.new) }
     ensures page_fault { result ≡ Status.PageFault →
         Rose (F.faults pages.old) (F.faults pages.new) }

@@ -2,8 +2,9 @@
 ghost use Rattle.std.specs.Prelude.{◌≤◌, length};
 ghost use Rattle.vax_cli.specs.Words.{trace};
 ghost use Rattle.vax_cli.specs.Said.{AreWithin, names_of, options as said_options, tracing as said_tracing};
-ghost use Rattle.vax_command.specs.Around.{around, change};
+ghost use Rattle.vax_command.specs.Around.{around, change, with_preludes};
 ghost use Rattle.vax_command.specs.Ends.{Admits};
+ghost use Rattle.vax_prelude.specs.View.{preludes_seen};
 ghost use Rattle.vax_top.specs.Top.{Carries};
 
 use crate::console::load_session;
@@ -11,11 +12,13 @@ use std::alloc::Global;
 use vax_cli::{Base, Options, Tracing};
 use vax_command::{Given, Status, load_run, refuse, trace_programs};
 use vax_outside::{Files, PageFile, Sink};
+use vax_prelude::Prelude;
 
 /// `trace`: runs a program and lists its steps.
 pub(crate) fn run_trace<S: Files, K: Sink, F: PageFile>(
     alloc: Global,
     names: &[&str],
+    preludes: &[Prelude<'_>],
     base: Base,
     tracing: &Tracing,
     options: &Options<'_>,
@@ -26,10 +29,10 @@ pub(crate) fn run_trace<S: Files, K: Sink, F: PageFile>(
     requires some { 1 ≤ length names.now }
     requires few { length names.now ≤ 8 }
     requires within { AreWithin (said_options options.now) }
-    ensures carries { Carries (around
+    ensures carries { Carries (with_preludes (preludes_seen preludes.now) (around
         (change S.faults S.contents files.old files.new)
         (change K.faults K.contents sink.old sink.new)
-        (change F.faults F.contents pages.old pages.new))
+        (change F.faults F.contents pages.old pages.new)))
         (trace (names_of names.now) base (said_tracing tracing.now) (said_options options.now))
         result }
     ensures read_failed { Admits (S.faults files.old) (S.faults files.new) Status.ReadFault result }
@@ -45,7 +48,7 @@ pub(crate) fn run_trace<S: Files, K: Sink, F: PageFile>(
         schedule,
         ..
     } = given;
-    match load_session(alloc, options.dialect, base, &texts, system) {
+    match load_session(alloc, preludes, options.dialect, base, &texts, system) {
         Ok(programs) => trace_programs(
             alloc, &programs, input, &schedule, tracing, options, sink, pages,
         ),

@@ -159,7 +159,6 @@ fn end_escape<P: Port>(
         result txn.old txn.new }
     ensures keeps { KeepsUnlessDone P.view P.since 41 result txn.old txn.new }
 {
-    let _numbers = *p;
     let len = bytes.len();
     let count = translate_before(bytes, table, p.byte);
     let moved = count.min(usize::from(space));

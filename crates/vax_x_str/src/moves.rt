@@ -211,7 +211,6 @@ fn move_run<P: Port>(
         result txn.old txn.new }
     ensures keeps { KeepsUnlessDone P.view P.since 41 result txn.old txn.new }
 {
-    let _numbers = *p;
     let count = buffer.len() as u16;
     let first = u32::from(lowest(p, count));
     read_span(txn, p.addr1.wrapping_add(first), buffer)?;
@@ -250,7 +249,6 @@ fn fill_run<P: Port>(
         result txn.old txn.new }
     ensures keeps { KeepsUnlessDone P.view P.since 8 result txn.old txn.new }
 {
-    let _numbers = *p;
     let count = buffer.len() as u16;
     buffer.fill(p.byte);
     write_run(txn, p.addr2.wrapping_add(u32::from(p.done)), buffer)?;

@@ -97,8 +97,7 @@ pub(crate) fn search_operands<P: Port>(txn: &mut Txn<P>, op: u8) -> Result<Progr
     let byte = next_byte(txn)?;
     let len1 = next_length(txn)?;
     let addr1 = next_place(txn)?;
-    let delta = length_between(from, txn.reg(15));
-    begin_anew(txn);
+    let delta = length_between(from, begin_anew(txn));
     Ok(Progress {
         op,
         len1,
@@ -121,8 +120,7 @@ pub(crate) fn scan_operands<P: Port>(txn: &mut Txn<P>, op: u8) -> Result<Progres
     let addr1 = next_place(txn)?;
     let table = next_place(txn)?;
     let byte = next_byte(txn)?;
-    let delta = length_between(from, txn.reg(15));
-    begin_anew(txn);
+    let delta = length_between(from, begin_anew(txn));
     Ok(Progress {
         op,
         len1,
@@ -146,8 +144,7 @@ pub(crate) fn equal_operands<P: Port>(txn: &mut Txn<P>, op: u8) -> Result<Progre
     let len = next_length(txn)?;
     let addr1 = next_place(txn)?;
     let addr2 = next_place(txn)?;
-    let delta = length_between(from, txn.reg(15));
-    begin_anew(txn);
+    let delta = length_between(from, begin_anew(txn));
     Ok(Progress {
         op,
         len1: len,
@@ -173,8 +170,7 @@ pub(crate) fn filled_operands<P: Port>(txn: &mut Txn<P>, op: u8) -> Result<Progr
     let byte = next_byte(txn)?;
     let len2 = next_length(txn)?;
     let addr2 = next_place(txn)?;
-    let delta = length_between(from, txn.reg(15));
-    begin_anew(txn);
+    let delta = length_between(from, begin_anew(txn));
     Ok(Progress {
         op,
         len1,
@@ -202,8 +198,7 @@ pub(crate) fn translated_operands<P: Port>(txn: &mut Txn<P>, op: u8) -> Result<P
     let table = next_place(txn)?;
     let len2 = next_length(txn)?;
     let addr2 = next_place(txn)?;
-    let delta = length_between(from, txn.reg(15));
-    begin_anew(txn);
+    let delta = length_between(from, begin_anew(txn));
     Ok(Progress {
         op,
         len1,
@@ -230,8 +225,7 @@ pub(crate) fn match_operands<P: Port>(txn: &mut Txn<P>, op: u8) -> Result<Progre
     let addr1 = next_place(txn)?;
     let len2 = next_length(txn)?;
     let addr2 = next_place(txn)?;
-    let delta = length_between(from, txn.reg(15));
-    begin_anew(txn);
+    let delta = length_between(from, begin_anew(txn));
     Ok(Progress {
         op,
         len1,

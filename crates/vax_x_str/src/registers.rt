@@ -1,7 +1,7 @@
 //! R0 to R5, PC and the processor status between the parts of an instruction.
 ghost use Rattle.std.specs.Prelude.{◌≡◌, ◌+◌, ◌-◌, ◌<◌, ◌≤◌};
 ghost use Rattle.vax_flat.specs.declared.Flow.TheVariants as flow;
-ghost use Rattle.vax_flat.specs.State.{with_conditions, with_psl};
+ghost use Rattle.vax_flat.specs.State.{register, with_conditions, with_psl};
 ghost use Rattle.vax_flat.specs.StringOperands.{begun};
 ghost use Rattle.vax_flat.specs.String.{completed, continued, leaves, left, low_registers, no_part_done, suspended, with_low};
 ghost use Rattle.vax_strpart.specs.Packing.{unpacked};
@@ -70,14 +70,16 @@ pub(crate) fn clear_part_done<P: Port>(txn: &mut Txn<P>)
     txn.set_psl(Psl(bits / 0x1000_0000 * 0x1000_0000 + bits % 0x800_0000));
 }
 
-/// What a string instruction begins from, behind its operands: no part is done.
-pub(crate) fn begin_anew<P: Port>(txn: &mut Txn<P>)
+/// What a string instruction begins from, behind its operands: no part is done. Answers PC, which is past the operands.
+pub(crate) fn begin_anew<P: Port>(txn: &mut Txn<P>) -> u32
     requires { 1 ≤ room txn.old }
+    ensures pc { result ≡ register (present P.view txn.old).state 15 }
     ensures exact { Updates P.view P.trail begun txn.old txn.new }
     ensures keeps { Keeps P.view P.since 1 txn.old txn.new }
 {
-    let _ = txn.registers();
+    let pc = txn.registers()[15];
     clear_part_done(txn);
+    pc
 }
 
 /// Puts PC past the instruction, and says that no part is done.

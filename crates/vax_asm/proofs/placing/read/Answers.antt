@@ -10,4 +10,4 @@ pub returns-clause-within : goal.returns-clause-within
 returns-clause-within c =
     let said = c.args.said.now in
     subst (λ (ts : List Token). All (IsTokenOf said.text.items) ts) (sym (c.in_ok-tokens.ensures ∙ ap (map token_of) c.deref.ensures.value))
-    (tokens_within said.text.items said.pieces.items (cut_within_line said.text.items said.pieces.items said.cut))
+    (tokens_within said.text.items said.pieces.items (cut_within_line said.dialect said.text.items said.pieces.items said.cut))

@@ -2,4 +2,4 @@ use Rattle.vax_asm_check.proofs.Beginning.{begin_refused}
 use Rattle.vax_asm_check.proofs.laws.faults_begin_with_the_refusal.Goals as goal
 
 pub returns : goal.returns
-returns c = λ dialect source most told f some first refused. begin_refused dialect source most told f some first refused
+returns c = λ dialect source told f all refused. begin_refused dialect source told f all refused

@@ -3,10 +3,9 @@ use Rattle.std.specs.Prelude.{Ok, Err, None}
 use Rattle.vax_asm.specs.Walk.{at, nothing}
 use Rattle.vax_dialect.specs.declared.Dialect.{Dialect}
 use Rattle.vax_asm_check.proofs.Restating.{kept_none}
-use Rattle.vax_asm_check.proofs.Surveying.{all_found, found_all, goes_next, if_ok, started_survey, survey_goes}
+use Rattle.vax_asm_check.proofs.Surveying.{all_found, goes_next, if_ok, started_survey, survey_goes}
 use Rattle.vax_asm_check.specs.Restating.{resumed}
 use Rattle.vax_asm_check.specs.View.{left_of}
-use Rattle.vax_asm_faults.specs.Refusal.{faults_of}
 use Rattle.vax_asm_faults.specs.Survey.{Onward, stated, with_faults}
 use Rattle.vax_asm_scope.specs.Kept.{scope_of}
 use Rattle.vax_asm_scope.specs.Known.{known_here}
@@ -22,7 +21,7 @@ statements-init c =
     let s = c.in_ok-survey.survey in
     let is = c.in_ok-survey.ensures in
     record {
-      goes = (suc (work rest), omega arith, started_survey c.args.dialect c.args.source.now rest (left_of s.left) s.ended s.faults.list.items c.in_ok-expander.ensures.rest is.left is.ended is.faults);
+      goes = (suc (work rest), omega arith, started_survey c.args.dialect c.args.source.now rest (left_of s.left) s.ended s.faults.items c.in_ok-expander.ensures.rest is.left is.ended is.faults);
       kept = kept_none s.stood.items (nothing s.dialect) (left_of s.left) is.stood (is.left ∙ ap (λ (d : Dialect). nothing d) (sym is.dialect));
       quiet = c.in_ok-expander.ensures.error;
     }
@@ -40,9 +39,9 @@ statements-preserved c =
     let same = ap (λ (v : Value). opened left (known_here old.left.standing.dialect v (scope_of old.left.standing.scope)) rest) (sym c.in_ok-here.ensures) in
     let opens = subst (λ o. Opens (Ok o) c.next.new.self (opened left names rest)) c.in-Ok-Some.field-0-is (c.in-Ok-Some.ensures.opens inv.quiet left inv.goes.1) in
     let does = c.in_ok-state-in-Ok-Some.ensures in
-    let goes = subst (λ (p : ℕ). (next : Onward) → with_faults old.faults.list.items (stated (at said.number p) said.text.items (left_of old.left) old.ended next) ≡ with_faults new.faults.list.items (next (left_of new.left) new.ended)) c.lines_read.ensures does.goes in
+    let goes = subst (λ (p : ℕ). (next : Onward) → with_faults old.faults.items (stated (at said.number p) said.text.items (left_of old.left) old.ended next) ≡ with_faults new.faults.items (next (left_of new.left) new.ended)) c.lines_read.ensures does.goes in
     record {
-      goes = (opens.0, opens.1, goes_next c.args.dialect c.args.source.now left opens.0 rest after (left_of old.left) (left_of new.left) old.ended new.ended old.faults.list.items new.faults.list.items (statement_of said) inv.goes.2 (same ∙ opens.2) goes);
+      goes = (opens.0, opens.1, goes_next c.args.dialect c.args.source.now left opens.0 rest after (left_of old.left) (left_of new.left) old.ended new.ended old.faults.items new.faults.items (statement_of said) inv.goes.2 (same ∙ opens.2) goes);
       kept = does.kept;
       quiet = c.in-Ok-Some.ensures.none;
     }
@@ -56,10 +55,9 @@ returns-in-Ok-None c =
     let names = known_here old.left.standing.dialect c.in_ok-here.here (scope_of old.left.standing.scope) in
     let same = ap (λ (v : Value). opened left (known_here old.left.standing.dialect v (scope_of old.left.standing.scope)) rest) (sym c.in_ok-here.ensures) in
     let opens = subst (λ o. Opens (Ok o) c.next.new.self (opened left names rest)) c.in-Ok-None.field-0-is (c.in-Ok-None.ensures.opens inv.quiet left inv.goes.1) in
-    let s = with_faults old.faults.list.items (resumed (AtEnd None) (left_of old.left) old.ended) in
-    let goes = survey_goes c.args.dialect c.args.source.now left rest (left_of old.left) old.ended old.faults.list.items (AtEnd None) inv.goes.2 (same ∙ opens) in
-    let all = if_ok c.end.result (λ v e. all_found c.args.dialect c.args.source.now v.items s e goes) c.end.ensures in
-    if_ok c.whole.result (λ f e. found_all f.are_all c.args.limits f.faults.items (faults_of c.args.dialect c.args.source.now) e) (c.whole.ensures (faults_of c.args.dialect c.args.source.now) all)
+    let s = with_faults old.faults.items (resumed (AtEnd None) (left_of old.left) old.ended) in
+    let goes = survey_goes c.args.dialect c.args.source.now left rest (left_of old.left) old.ended old.faults.items (AtEnd None) inv.goes.2 (same ∙ opens) in
+    if_ok c.end.result (λ v e. all_found c.args.dialect c.args.source.now v.items s e goes) c.end.ensures
 
 pub returns-in-Err-Fault : goal.returns-in-Err-Fault
 returns-in-Err-Fault c =
@@ -71,7 +69,6 @@ returns-in-Err-Fault c =
     let same = ap (λ (v : Value). opened left (known_here old.left.standing.dialect v (scope_of old.left.standing.scope)) rest) (sym c.in_ok-here.ensures) in
     let o = opened left names rest in
     let opens = subst (λ e. Opens (Err e) c.next.new.self o) c.in-Err-Fault.field-0-is (c.in-Err-Fault.ensures.opens inv.quiet left inv.goes.1) in
-    let s = with_faults old.faults.list.items (resumed o (left_of old.left) old.ended) in
-    let goes = survey_goes c.args.dialect c.args.source.now left rest (left_of old.left) old.ended old.faults.list.items o inv.goes.2 same in
-    let all = if_ok c.stop.result (λ v e. all_found c.args.dialect c.args.source.now v.items s e goes) (c.stop.ensures o (rw c.in-Err-Fault.field-0-is opens)) in
-    if_ok c.whole-in-Err-Fault.result (λ f e. found_all f.are_all c.args.limits f.faults.items (faults_of c.args.dialect c.args.source.now) e) (c.whole-in-Err-Fault.ensures (faults_of c.args.dialect c.args.source.now) all)
+    let s = with_faults old.faults.items (resumed o (left_of old.left) old.ended) in
+    let goes = survey_goes c.args.dialect c.args.source.now left rest (left_of old.left) old.ended old.faults.items o inv.goes.2 same in
+    if_ok c.stop.result (λ v e. all_found c.args.dialect c.args.source.now v.items s e goes) (c.stop.ensures o opens)

@@ -7,7 +7,7 @@ use Rattle.vax_asm_check.proofs.walk.faults.Given as goal
 
 abbrev pub invariant-statements : goal.invariant-statements
 invariant-statements l = record {
-  goes : (left : ℕ) × (work (rest_of l.expander) < left) × (with_faults l.survey.faults.list.items (survey left (rest_of l.expander) (left_of l.survey.left) l.survey.ended) ≡ survey_of l.fn.dialect l.source);
+  goes : (left : ℕ) × (work (rest_of l.expander) < left) × (with_faults l.survey.faults.items (survey left (rest_of l.expander) (left_of l.survey.left) l.survey.ended) ≡ survey_of l.fn.dialect l.source);
   kept : IsKept l.survey;
   quiet : error_of l.expander ≡ None;
 }

@@ -5,6 +5,6 @@ use Rattle.vax_asm_data.proofs.texts.count_of.Given as goal
 
 abbrev pub invariant-loop-piece : goal.invariant-loop-piece
 invariant-loop-piece l = record {
-  few : l.count ≤ 255;
+  few : l.count ≤ l.most;
   same : l.count + pieces_length l.line (map piece_seen (drop l.piece-index l.pieces)) ≡ pieces_length l.line (map piece_seen l.pieces);
 }

@@ -1,7 +1,8 @@
 use Rattle.std.proofs.Common.{◌≡◌, ◌++◌, drop}
 use Rattle.std.specs.List.{flat_map}
 use Rattle.vax_asm_errors.specs.Errors.{error}
+use Rattle.vax_prelude.specs.View.{title_seen}
 use Rattle.vax_asm_errors.proofs.errors.push_each.Given as goal
 
 abbrev pub invariant-loop-one : goal.invariant-loop-one
-invariant-loop-one l = l.out.items ++ flat_map (error l.source.name.now l.source.text.now) (drop l.one-index l.said) ≡ l.fn.out.items ++ flat_map (error l.source.name.now l.source.text.now) l.said
+invariant-loop-one l = l.out.items ++ flat_map (error (title_seen l.source.title) l.source.text.now) (drop l.one-index l.said) ≡ l.fn.out.items ++ flat_map (error (title_seen l.source.title) l.source.text.now) l.said

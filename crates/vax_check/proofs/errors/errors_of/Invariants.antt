@@ -1,9 +1,10 @@
 use Rattle.std.proofs.Common.{[], drop}
 use Rattle.vax_check.specs.Told.{AreTold}
-use Rattle.vax_check.specs.View.{names_of}
+use Rattle.vax_check.specs.View.{titles_of}
 use Rattle.vax_lines.specs.Lines.{Text}
+use Rattle.vax_prelude.specs.View.{preludes_seen}
 use Rattle.vax_program.specs.View.{texts}
 use Rattle.vax_check.proofs.errors.errors_of.Given as goal
 
 abbrev pub invariant-loop-i : goal.invariant-loop-i
-invariant-loop-i l = (after : Text) → AreTold l.dialect (names_of (drop l.i l.names)) (texts (drop l.i l.texts)) l.out.items after → AreTold l.dialect (names_of l.names) (texts l.texts) [] after
+invariant-loop-i l = (after : Text) → AreTold l.files.dialect (titles_of (preludes_seen l.files.preludes.now) (drop l.i l.files.names.now)) (texts (drop l.i l.files.texts.now)) l.out.items after → AreTold l.files.dialect (titles_of (preludes_seen l.files.preludes.now) l.files.names.now) (texts l.files.texts.now) [] after

@@ -8,5 +8,5 @@ use Rattle.vax_cli.proofs.items.read_items.Given as goal
 abbrev pub invariant-loop-word : goal.invariant-loop-word
 invariant-loop-word l = record {
   reads : behind (items_of l.items.items) (items_from l.keys l.pending (texts (drop l.word-index l.words))) ≡ items_from l.keys None (texts l.words);
-  few : length l.items.items ≤ 33;
+  few : length l.items.items ≤ 37;
 }

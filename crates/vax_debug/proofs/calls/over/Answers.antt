@@ -16,7 +16,7 @@ returns-in-Ok-None-clause-goes g c = λ o s replies here.
     let sink = g.K.Sink.contents c.args.sink.now in
     let w = scene (engine c.step.new.machine) (g.F.PageFile.contents c.step.new.file) (g.K.Sink.contents c.step.new.sink) in
     let is : None ≡ call_goal s.machine = (rw c.in-Ok-None.field-0-is at c.in-Ok-None.ensures.tells) sink o s replies here in
-    subst (λ (k : Option Goal). Arrives c.step.result c.args.limits.now.turns (over_count_to limit k s) (over_to limit k c.args.breaks.now s) o s replies w) is
+    subst (λ (k : Option Goal). Arrives c.step.result c.args.limits.now.turns (over_count_to limit k s) (over_to limit k c.args.marks.now.breaks.now c.args.marks.now.seen.now s) o s replies w) is
     (c.step.ensures.goes o s replies (c.call_goal.ensures.stays sink o s replies here))
 
 pub returns-in-Ok-Some-clause-goes : goal.returns-in-Ok-Some-clause-goes
@@ -25,7 +25,7 @@ returns-in-Ok-Some-clause-goes g c = λ o s replies here.
     let sink = g.K.Sink.contents c.args.sink.now in
     let w = scene (engine c.go_to.new.machine) (g.F.PageFile.contents c.go_to.new.file) (g.K.Sink.contents c.go_to.new.sink) in
     let is : Some c.in-Ok-Some.goal ≡ call_goal s.machine = (rw c.in-Ok-Some.field-0-is at c.in-Ok-Some.ensures.tells) sink o s replies here in
-    subst (λ (k : Option Goal). Arrives c.go_to.result c.args.limits.now.turns (over_count_to limit k s) (over_to limit k c.args.breaks.now s) o s replies w) is
+    subst (λ (k : Option Goal). Arrives c.go_to.result c.args.limits.now.turns (over_count_to limit k s) (over_to limit k c.args.marks.now.breaks.now c.args.marks.now.seen.now s) o s replies w) is
     (c.go_to.ensures.goes o s replies (c.call_goal.ensures.stays sink o s replies here))
 
 pub returns-in-Err-clause-goes : goal.returns-in-Err-clause-goes

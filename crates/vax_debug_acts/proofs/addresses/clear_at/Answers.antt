@@ -4,8 +4,7 @@ use Rattle.vax_machine.specs.Meaning.{engine}
 use Rattle.vax_console.specs.Ends.{scene}
 use Rattle.vax_debug_acts.proofs.Telling.{breaks_at, breaks_same, counts_then, done, not_done, reply_counts, reply_only, tells, with_value, without_value}
 use Rattle.vax_debug.specs.Values.{evaluated}
-use Rattle.vax_debug.specs.Travel.{without}
-use Rattle.vax_debug_acts.specs.Acts.{clear_act, done_line, no_value_line, only_told}
+use Rattle.vax_debug_acts.specs.Acts.{clear_act, cleared_at, done_line, no_value_line, only_told}
 use Rattle.vax_console.proofs.Only.{only_none}
 use Rattle.vax_debug_acts.proofs.addresses.clear_at.Goals as goal
 
@@ -51,13 +50,13 @@ pub returns-in-Ok-Some-clause-breaks : goal.returns-in-Ok-Some-clause-breaks
 returns-in-Ok-Some-clause-breaks g c = λ o s replies here.
     let sink = g.K.Sink.contents c.args.sink.now in
     let is : Some c.in-Ok-Some.address ≡ evaluated c.args.setting.now.symbols.now c.args.at.now s.machine = (rw c.in-Ok-Some.field-0-is at c.in-Ok-Some.ensures.tells) sink o s replies here in
-    breaks_at c.remove.result c.in-Ok-Some.address (evaluated c.args.setting.now.symbols.now c.args.at.now s.machine) c.args.breaks.now c.remove.new.breaks (λ (a : ℕ). without a c.args.breaks.now) is c.remove.ensures.breaks
+    breaks_at c.remove.result c.in-Ok-Some.address (evaluated c.args.setting.now.symbols.now c.args.at.now s.machine) c.args.plan.now c.remove.new.plan (cleared_at c.args.plan.now) is c.remove.ensures.plan
 
 pub returns-in-Ok-None-clause-breaks : goal.returns-in-Ok-None-clause-breaks
 returns-in-Ok-None-clause-breaks g c = λ o s replies here.
     let sink = g.K.Sink.contents c.args.sink.now in
     let is : None ≡ evaluated c.args.setting.now.symbols.now c.args.at.now s.machine = (rw c.in-Ok-None.field-0-is at c.in-Ok-None.ensures.tells) sink o s replies here in
-    breaks_same c.tell_no_value.result (evaluated c.args.setting.now.symbols.now c.args.at.now s.machine) c.args.breaks.now (λ (a : ℕ). without a c.args.breaks.now) is
+    breaks_same c.tell_no_value.result (evaluated c.args.setting.now.symbols.now c.args.at.now s.machine) c.args.plan.now (cleared_at c.args.plan.now) is
 
 pub returns-in-Ok-Some-clause-only : goal.returns-in-Ok-Some-clause-only
 returns-in-Ok-Some-clause-only g c = reply_only _ _ _ _ _ _ c.remove.ensures.replies

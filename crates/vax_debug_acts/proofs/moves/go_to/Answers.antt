@@ -1,28 +1,33 @@
+use Rattle.std.proofs.Common.{List, refl}
 use Rattle.vax_machine.specs.Meaning.{engine}
 use Rattle.vax_console.specs.Ends.{scene}
-use Rattle.vax_console.specs.Transcript.{left}
-use Rattle.vax_debug_acts.proofs.Telling.{counts_then, cut_off, done}
-use Rattle.vax_debug.specs.Calls.{gone_to}
-use Rattle.vax_debug_acts.specs.Acts.{stop_reply, to_goal}
-use Rattle.vax_console.proofs.Only.{only_then}
+use Rattle.vax_debug.specs.declared.watches.Seen.{Seen}
+use Rattle.vax_debug_acts.proofs.Telling.{counts_then, not_done}
+use Rattle.vax_debug_acts.specs.Acting.{Act}
+use Rattle.vax_debug_acts.specs.Acts.{to_goal, goal_seen}
+use Rattle.vax_debug_acts.proofs.Stopping.{with_seen}
+use Rattle.vax_console.proofs.Only.{only_none}
 use Rattle.vax_debug_acts.proofs.moves.go_to.Goals as goal
 
 pub returns-in-Ok-clause-acts : goal.returns-in-Ok-clause-acts
 returns-in-Ok-clause-acts g c = λ o s replies here.
     let limit = c.args.setting.now.limits.now.steps in
-    let w = scene (engine c.tell_stop.new.machine) (g.F.PageFile.contents c.tell_stop.new.file) (g.K.Sink.contents c.tell_stop.new.sink) in
-    let t = gone_to limit c.args.goal c.args.breaks.now s in
-    done c.tell_stop.result c.args.setting.now.limits.now.turns (left limit s) o s t replies (stop_reply limit c.args.setting.now.symbols.now c.args.breaks.now t) w (c.tell_stop.ensures.replies o t replies (c.in-Ok.ensures.goes o s replies here))
+    let sink = g.K.Sink.contents c.args.sink.now in
+    let w = scene (engine c.go_to_seen.new.machine) (g.F.PageFile.contents c.go_to_seen.new.file) (g.K.Sink.contents c.go_to_seen.new.sink) in
+    with_seen c.go_to_seen.result c.args.setting.now.limits.now.turns c.args.plan.now.watches c.in-Ok.seen (λ (z : List Seen). goal_seen limit c.args.setting.now.symbols.now c.args.plan.now c.args.goal z s) o s replies w
+    (c.in-Ok.ensures.tells sink o s replies here) (c.go_to_seen.ensures.acts o s replies (c.look.ensures.stays sink o s replies here))
 
 pub returns-in-Err-clause-acts : goal.returns-in-Err-clause-acts
 returns-in-Err-clause-acts g c = λ o s replies here.
     let limit = c.args.setting.now.limits.now.steps in
-    let w = scene (engine c.go_to.new.machine) (g.F.PageFile.contents c.go_to.new.file) (g.K.Sink.contents c.go_to.new.sink) in
-    let t = gone_to limit c.args.goal c.args.breaks.now s in
-    cut_off c.in-Err.failure c.args.setting.now.limits.now.turns (to_goal limit c.args.setting.now.symbols.now c.args.breaks.now c.args.goal s) o s t replies w (c.in-Err.ensures.goes o s replies here)
+    let sink = g.K.Sink.contents c.args.sink.now in
+    not_done c.args.setting.now.limits.now.turns (to_goal limit c.args.setting.now.symbols.now c.args.plan.now c.args.goal s) o s replies (scene (engine c.look.new.machine) (g.F.PageFile.contents c.look.new.file) sink) (c.look.ensures.stays sink o s replies here)
 
 pub returns-in-Ok-clause-counts : goal.returns-in-Ok-clause-counts
-returns-in-Ok-clause-counts g c = counts_then c.tell_stop.result (g.F.PageFile.faults c.args.file.now) (g.F.PageFile.faults c.go_to.new.file) (g.F.PageFile.faults c.tell_stop.new.file) (g.K.Sink.faults c.args.sink.now) (g.K.Sink.faults c.go_to.new.sink) (g.K.Sink.faults c.tell_stop.new.sink) c.in-Ok.ensures.counts.0 c.in-Ok.ensures.counts.1 c.tell_stop.ensures.counts
+returns-in-Ok-clause-counts g c = counts_then c.go_to_seen.result (g.F.PageFile.faults c.args.file.now) (g.F.PageFile.faults c.look.new.file) (g.F.PageFile.faults c.go_to_seen.new.file) (g.K.Sink.faults c.args.sink.now) (g.K.Sink.faults c.args.sink.now) (g.K.Sink.faults c.go_to_seen.new.sink) c.in-Ok.ensures.counts.quiet refl c.go_to_seen.ensures.counts
 
-pub returns-in-Ok-clause-only : goal.returns-in-Ok-clause-only
-returns-in-Ok-clause-only g c = only_then _ _ _ c.go_to.ensures.only c.tell_stop.ensures.only
+pub returns-in-Err-clause-counts : goal.returns-in-Err-clause-counts
+returns-in-Err-clause-counts g c = (c.in-Err.ensures.counts.later, c.in-Err.ensures.counts.cause, refl)
+
+pub returns-in-Err-clause-only : goal.returns-in-Err-clause-only
+returns-in-Err-clause-only g c = only_none _

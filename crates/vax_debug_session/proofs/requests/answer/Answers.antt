@@ -87,7 +87,17 @@ returns-in-Break-clause-acts g c =
 pub returns-in-Break-clause-breaks : goal.returns-in-Break-clause-breaks
 unfolding breaks_after
 returns-in-Break-clause-breaks g c =
-    breaks_as (scene (engine c.args.machine.now) (g.F.PageFile.contents c.args.file.now) (g.K.Sink.contents c.args.sink.now)) c.stop_at.result c.stop_at.new.breaks c.args.setting.now.symbols.now c.args.breaks.now _ _ c.in-Break.is c.stop_at.ensures.breaks
+    breaks_as (scene (engine c.args.machine.now) (g.F.PageFile.contents c.args.file.now) (g.K.Sink.contents c.args.sink.now)) c.stop_at.result c.stop_at.new.plan c.args.setting.now.symbols.now c.args.breaks.now _ _ c.in-Break.is c.stop_at.ensures.breaks
+
+pub returns-in-Watch-clause-acts : goal.returns-in-Watch-clause-acts
+unfolding answered
+returns-in-Watch-clause-acts g c =
+    acts_as (scene (engine c.args.machine.now) (g.F.PageFile.contents c.args.file.now) (g.K.Sink.contents c.args.sink.now)) (scene (engine c.watch.new.machine) (g.F.PageFile.contents c.watch.new.file) (g.K.Sink.contents c.watch.new.sink)) c.watch.result c.args.setting.now.limits.now c.args.setting.now.symbols.now c.args.breaks.now (pages_at (engine c.args.machine.now)) _ _ c.in-Watch.is c.watch.ensures.acts
+
+pub returns-in-Watch-clause-breaks : goal.returns-in-Watch-clause-breaks
+unfolding breaks_after
+returns-in-Watch-clause-breaks g c =
+    breaks_as (scene (engine c.args.machine.now) (g.F.PageFile.contents c.args.file.now) (g.K.Sink.contents c.args.sink.now)) c.watch.result c.watch.new.plan c.args.setting.now.symbols.now c.args.breaks.now _ _ c.in-Watch.is c.watch.ensures.breaks
 
 pub returns-in-Clear-clause-acts : goal.returns-in-Clear-clause-acts
 unfolding answered
@@ -130,6 +140,16 @@ unfolding breaks_after
 returns-in-DepositStatus-clause-breaks g c =
     breaks_same (scene (engine c.args.machine.now) (g.F.PageFile.contents c.args.file.now) (g.K.Sink.contents c.args.sink.now)) c.deposit_into_status.result c.args.setting.now.symbols.now c.args.breaks.now _ _ c.in-DepositStatus.is (λ s. refl)
 
+pub returns-in-DepositField-clause-acts : goal.returns-in-DepositField-clause-acts
+unfolding answered
+returns-in-DepositField-clause-acts g c =
+    acts_as (scene (engine c.args.machine.now) (g.F.PageFile.contents c.args.file.now) (g.K.Sink.contents c.args.sink.now)) (scene (engine c.deposit_into_field.new.machine) (g.F.PageFile.contents c.deposit_into_field.new.file) (g.K.Sink.contents c.deposit_into_field.new.sink)) c.deposit_into_field.result c.args.setting.now.limits.now c.args.setting.now.symbols.now c.args.breaks.now (pages_at (engine c.args.machine.now)) _ _ c.in-DepositField.is c.deposit_into_field.ensures.acts
+
+pub returns-in-DepositField-clause-breaks : goal.returns-in-DepositField-clause-breaks
+unfolding breaks_after
+returns-in-DepositField-clause-breaks g c =
+    breaks_same (scene (engine c.args.machine.now) (g.F.PageFile.contents c.args.file.now) (g.K.Sink.contents c.args.sink.now)) c.deposit_into_field.result c.args.setting.now.symbols.now c.args.breaks.now _ _ c.in-DepositField.is (λ s. refl)
+
 pub returns-in-Turn-clause-acts : goal.returns-in-Turn-clause-acts
 unfolding answered
 returns-in-Turn-clause-acts g c =
@@ -142,11 +162,11 @@ returns-in-Turn-clause-breaks g c =
 
 pub returns-in_default-clause-acts : goal.returns-in_default-clause-acts
 returns-in_default-clause-acts g c =
-    rest_acts (scene (engine c.args.machine.now) (g.F.PageFile.contents c.args.file.now) (g.K.Sink.contents c.args.sink.now)) (scene (engine c.show.new.machine) (g.F.PageFile.contents c.show.new.file) (g.K.Sink.contents c.show.new.sink)) c.show.result c.args.setting.now.limits.now c.args.setting.now.symbols.now c.args.breaks.now (pages_at (engine c.args.machine.now)) c.args.request.now c.in_default.not-DepositRegister c.in_default.not-DepositMemory c.in_default.not-Step c.in_default.not-Over c.in_default.not-Out c.in_default.not-Go c.in_default.not-Until c.in_default.not-Break c.in_default.not-Clear c.in_default.not-Evict c.in_default.not-EvictAll c.in_default.not-DepositStatus c.in_default.not-Turn c.show.ensures.shows
+    rest_acts (scene (engine c.args.machine.now) (g.F.PageFile.contents c.args.file.now) (g.K.Sink.contents c.args.sink.now)) (scene (engine c.show.new.machine) (g.F.PageFile.contents c.show.new.file) (g.K.Sink.contents c.show.new.sink)) c.show.result c.args.setting.now.limits.now c.args.setting.now.symbols.now c.args.breaks.now (pages_at (engine c.args.machine.now)) c.args.request.now c.in_default.not-DepositRegister c.in_default.not-DepositMemory c.in_default.not-Step c.in_default.not-Over c.in_default.not-Out c.in_default.not-Go c.in_default.not-Until c.in_default.not-Break c.in_default.not-Clear c.in_default.not-Evict c.in_default.not-EvictAll c.in_default.not-DepositStatus c.in_default.not-Turn c.in_default.not-Watch c.in_default.not-DepositField c.show.ensures.shows
 
 pub returns-in_default-clause-breaks : goal.returns-in_default-clause-breaks
 returns-in_default-clause-breaks g c =
-    rest_breaks (scene (engine c.args.machine.now) (g.F.PageFile.contents c.args.file.now) (g.K.Sink.contents c.args.sink.now)) c.show.result c.args.setting.now.symbols.now c.args.breaks.now c.args.request.now c.in_default.not-Break c.in_default.not-Clear
+    rest_breaks (scene (engine c.args.machine.now) (g.F.PageFile.contents c.args.file.now) (g.K.Sink.contents c.args.sink.now)) c.show.result c.args.setting.now.symbols.now c.args.breaks.now c.args.request.now c.in_default.not-Break c.in_default.not-Clear c.in_default.not-Watch
 
 pub returns-in_default-clause-only : goal.returns-in_default-clause-only
 returns-in_default-clause-only g c = told_only _ _ c.show.ensures.shows.only

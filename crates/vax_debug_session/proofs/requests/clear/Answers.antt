@@ -11,7 +11,7 @@ returns-in-Some-clause-acts g c =
 
 pub returns-in-Some-clause-breaks : goal.returns-in-Some-clause-breaks
 returns-in-Some-clause-breaks g c =
-    cleared_left (scene (engine c.args.machine.now) (g.F.PageFile.contents c.args.file.now) (g.K.Sink.contents c.args.sink.now)) c.clear_at.result c.clear_at.new.breaks c.args.setting.now.symbols.now c.args.breaks.now _ _ c.in-Some.is c.clear_at.ensures.breaks
+    cleared_left (scene (engine c.args.machine.now) (g.F.PageFile.contents c.args.file.now) (g.K.Sink.contents c.args.sink.now)) c.clear_at.result c.clear_at.new.plan c.args.setting.now.symbols.now c.args.breaks.now _ _ c.in-Some.is c.clear_at.ensures.breaks
 
 pub returns-in-None-clause-acts : goal.returns-in-None-clause-acts
 returns-in-None-clause-acts g c =
@@ -20,7 +20,7 @@ returns-in-None-clause-acts g c =
 
 pub returns-in-None-clause-breaks : goal.returns-in-None-clause-breaks
 returns-in-None-clause-breaks g c =
-    cleared_left (scene (engine c.args.machine.now) (g.F.PageFile.contents c.args.file.now) (g.K.Sink.contents c.args.sink.now)) c.clear_all.result c.clear_all.new.breaks c.args.setting.now.symbols.now c.args.breaks.now _ _ c.in-None.is (λ o s replies here. ok_if c.clear_all.result c.clear_all.ensures.breaks)
+    cleared_left (scene (engine c.args.machine.now) (g.F.PageFile.contents c.args.file.now) (g.K.Sink.contents c.args.sink.now)) c.clear_all.result c.clear_all.new.plan c.args.setting.now.symbols.now c.args.breaks.now _ _ c.in-None.is (λ o s replies here. ok_if c.clear_all.result c.clear_all.ensures.breaks)
 
 pub returns-in-None-clause-counts : goal.returns-in-None-clause-counts
 returns-in-None-clause-counts g c =

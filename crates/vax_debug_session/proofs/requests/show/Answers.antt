@@ -5,6 +5,7 @@ use Rattle.vax_console.specs.Ends.{scene}
 use Rattle.vax_debug_replies.specs.Help.{breaks_shown, help}
 use Rattle.vax_debug_acts.specs.Pages.{pages_at}
 use Rattle.vax_debug_views.specs.Pages.{pages_shown}
+use Rattle.vax_debug_views.specs.Watches.{watches_shown}
 use Rattle.vax_debug_views.proofs.Telling.{replied_shows}
 use Rattle.vax_debug_session.proofs.Asking.{nothing_shown, shown_as}
 use Rattle.vax_debug_session.proofs.requests.show.Goals as goal
@@ -40,7 +41,12 @@ returns-in-Queue-clause-shows g c =
 pub returns-in-Show-clause-shows : goal.returns-in-Show-clause-shows
 returns-in-Show-clause-shows g c =
     shown_as _ _ _ c.args.symbols.now c.args.breaks.now (pages_at (engine c.args.machine.now)) _ _ c.in-Show.is
-    (replied_shows (scene (engine c.args.machine.now) (g.F.PageFile.contents c.args.file.now) (g.K.Sink.contents c.args.sink.now)) (g.K.Sink.contents c.show_breaks.new.sink) c.show_breaks.result (breaks_shown c.args.symbols.now c.args.breaks.now) (λ (m : Flat). (breaks_shown c.args.symbols.now c.args.breaks.now)) (λ sink o s replies here. refl) c.show_breaks.ensures.replied)
+    (replied_shows (scene (engine c.args.machine.now) (g.F.PageFile.contents c.args.file.now) (g.K.Sink.contents c.args.sink.now)) (g.K.Sink.contents c.show_breaks.new.sink) c.show_breaks.result (breaks_shown c.args.symbols.now c.args.breaks.now.breaks) (λ (m : Flat). (breaks_shown c.args.symbols.now c.args.breaks.now.breaks)) (λ sink o s replies here. refl) c.show_breaks.ensures.replied)
+
+pub returns-in-ShowWatches-clause-shows : goal.returns-in-ShowWatches-clause-shows
+returns-in-ShowWatches-clause-shows g c =
+    shown_as _ _ _ c.args.symbols.now c.args.breaks.now (pages_at (engine c.args.machine.now)) _ _ c.in-ShowWatches.is
+    (replied_shows (scene (engine c.args.machine.now) (g.F.PageFile.contents c.args.file.now) (g.K.Sink.contents c.args.sink.now)) (g.K.Sink.contents c.show_watches.new.sink) c.show_watches.result (watches_shown c.args.symbols.now c.args.breaks.now.watches) (λ (m : Flat). (watches_shown c.args.symbols.now c.args.breaks.now.watches)) (λ sink o s replies here. refl) c.show_watches.ensures.replied)
 
 pub returns-in-Help-clause-shows : goal.returns-in-Help-clause-shows
 returns-in-Help-clause-shows g c =
@@ -54,4 +60,4 @@ returns-in-Pages-clause-shows g c =
 
 pub returns-in_default-clause-shows : goal.returns-in_default-clause-shows
 returns-in_default-clause-shows g c =
-    nothing_shown (scene (engine c.args.machine.now) (g.F.PageFile.contents c.args.file.now) (g.K.Sink.contents c.args.sink.now)) c.args.symbols.now c.args.breaks.now (pages_at (engine c.args.machine.now)) c.args.request.now c.in_default.not-ExamineRegister c.in_default.not-ExamineStatus c.in_default.not-ExamineMemory c.in_default.not-Disassemble c.in_default.not-Show c.in_default.not-Where c.in_default.not-Stack c.in_default.not-Queue c.in_default.not-Help c.in_default.not-Pages
+    nothing_shown (scene (engine c.args.machine.now) (g.F.PageFile.contents c.args.file.now) (g.K.Sink.contents c.args.sink.now)) c.args.symbols.now c.args.breaks.now (pages_at (engine c.args.machine.now)) c.args.request.now c.in_default.not-ExamineRegister c.in_default.not-ExamineStatus c.in_default.not-ExamineMemory c.in_default.not-Disassemble c.in_default.not-Show c.in_default.not-Where c.in_default.not-Stack c.in_default.not-Queue c.in_default.not-Help c.in_default.not-Pages c.in_default.not-ShowWatches

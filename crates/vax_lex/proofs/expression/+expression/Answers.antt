@@ -1,12 +1,13 @@
 use Rattle.std.proofs.Common.{sym, ap, subst, ◌∙◌, ◌+◌, Option}
 use Rattle.std.specs.Prelude.{option_map}
+use Rattle.vax_dialect.specs.declared.Dialect.{Dialect}
 use Rattle.vax_lex.specs.Views.{operation_view}
 use Rattle.vax_lex.specs.Grammar.{symbols_of}
 use Rattle.vax_lex.specs.Values.{combined, complement_of, minus_of, named}
-use Rattle.vax_lex.specs.Reading.{ReadsTerm, ReadsExpression}
+use Rattle.vax_lex.specs.Reading.{ReadsTerm, ReadsExpression, ReadsSingleMask}
 use Rattle.vax_lex.specs.declared.expression.Read.{Read}
 use Rattle.vax_lex.proofs.Symbols.{token_within, mark_stands, kind_mark, number_stands, spelled_stands, word_yes, word_no}
-use Rattle.vax_lex.proofs.Parsing.{name_stands, constant_read, named_read, no_term_nothing, plus_read, minus_read, no_minus, complement_read, no_complement, quoted_read, mask_read, no_letter, no_letter_kind, no_letter_other, no_term_other, no_term_mark, begins_term, bracket_read, no_bracket, no_bracket_end, so_far_begin, so_far_more, so_far_none, so_far_end}
+use Rattle.vax_lex.proofs.Parsing.{name_stands, constant_read, named_read, no_term_nothing, plus_read, minus_read, no_minus, complement_read, no_complement, quoted_read, mask_read, single_mask_read, no_letter, no_letter_kind, no_letter_other, no_term_other, no_term_mark, begins_term, bracket_read, no_bracket, no_bracket_end, so_far_begin, so_far_more, so_far_none, so_far_end}
 use Rattle.vax_lex.proofs.expression.+expression.Goals as goal
 
 pub bracketed-returns-in_default : goal.bracketed-returns-in_default
@@ -45,8 +46,11 @@ operated-returns-in-Some-term g t c = complement_read c.args.line.now c.args.tok
 pub operated-returns-then-is_word-2 : goal.operated-returns-then-is_word-2
 operated-returns-then-is_word-2 g t c = quoted_read c.args.line.now c.args.tokens.now (g.N.Names.meaning c.args.names.now) c.args.at c.quoted_at.result (mark_stands c.args.line.now c.args.tokens.now c.args.at 94 c.requires.caret) (spelled_stands c.args.line.now c.args.tokens.now (c.args.at + 1) _ _ (name_stands c.args.line.now c.args.tokens.now (c.args.at + 1) c.in-Some.token (sym c.token_at.ensures.value ∙ c.in-Some.is) c.in-Name.is) (sym (c.as_bytes-else-is_word.ensures ∙ c.name_of-name.ensures) ∙ (word_yes c.is_word-else-is_word.result _ _ c.is_word-else-is_word.ensures.is c.if-is_word-2.true))) c.quoted_at.ensures
 
-pub operated-returns-then-is_word-3 : goal.operated-returns-then-is_word-3
-operated-returns-then-is_word-3 g t c = mask_read c.args.line.now c.args.tokens.now (g.N.Names.meaning c.args.names.now) c.args.at c.mask_at.result (mark_stands c.args.line.now c.args.tokens.now c.args.at 94 c.requires.caret) (spelled_stands c.args.line.now c.args.tokens.now (c.args.at + 1) _ _ (name_stands c.args.line.now c.args.tokens.now (c.args.at + 1) c.in-Some.token (sym c.token_at.ensures.value ∙ c.in-Some.is) c.in-Name.is) (sym (c.as_bytes-else-is_word-2.ensures ∙ c.name_of-name.ensures) ∙ (word_yes c.is_word-else-is_word-2.result _ _ c.is_word-else-is_word-2.ensures.is c.if-is_word-3.true))) c.mask_at.ensures
+pub operated-returns-then-is_mark_at : goal.operated-returns-then-is_mark_at
+operated-returns-then-is_mark_at g t c = mask_read c.args.line.now c.args.tokens.now (g.N.Names.meaning c.args.names.now) c.args.at c.mask_at.result (mark_stands c.args.line.now c.args.tokens.now c.args.at 94 c.requires.caret) (spelled_stands c.args.line.now c.args.tokens.now (c.args.at + 1) _ _ (name_stands c.args.line.now c.args.tokens.now (c.args.at + 1) c.in-Some.token (sym c.token_at.ensures.value ∙ c.in-Some.is) c.in-Name.is) (sym (c.as_bytes-else-is_word-2.ensures ∙ c.name_of-name.ensures) ∙ (word_yes c.is_word-else-is_word-2.result _ _ c.is_word-else-is_word-2.ensures.is c.if-is_word-3.true))) (mark_stands c.args.line.now c.args.tokens.now (c.args.at + 2) 60 (sym c.is_mark_at.ensures.value ∙ c.if-is_mark_at.true)) c.mask_at.ensures
+
+pub operated-returns-else-is_mark_at : goal.operated-returns-else-is_mark_at
+operated-returns-else-is_mark_at g t c = single_mask_read c.args.line.now c.args.tokens.now (g.N.Names.meaning c.args.names.now) c.args.at c.single_mask_at.result (mark_stands c.args.line.now c.args.tokens.now c.args.at 94 c.requires.caret) (spelled_stands c.args.line.now c.args.tokens.now (c.args.at + 1) _ _ (name_stands c.args.line.now c.args.tokens.now (c.args.at + 1) c.in-Some.token (sym c.token_at.ensures.value ∙ c.in-Some.is) c.in-Name.is) (sym (c.as_bytes-else-is_word-2.ensures ∙ c.name_of-name.ensures) ∙ (word_yes c.is_word-else-is_word-2.result _ _ c.is_word-else-is_word-2.ensures.is c.if-is_word-3.true))) (sym c.is_mark_at.ensures.value ∙ c.if-is_mark_at.false) (let P : Dialect → Type 0 = λ d. ReadsSingleMask d (symbols_of c.args.line.now c.args.tokens.now) (c.args.at + 2) c.single_mask_at.result in subst P c.dialect-else-is_mark_at.ensures c.single_mask_at.ensures)
 
 pub operated-returns-else-is_word-3 : goal.operated-returns-else-is_word-3
 operated-returns-else-is_word-3 g t c = no_letter_other c.args.line.now c.args.tokens.now (g.N.Names.meaning c.args.names.now) c.args.at _ (mark_stands c.args.line.now c.args.tokens.now c.args.at 94 c.requires.caret) (name_stands c.args.line.now c.args.tokens.now (c.args.at + 1) c.in-Some.token (sym c.token_at.ensures.value ∙ c.in-Some.is) c.in-Name.is) (λ e. (word_no c.is_word.result _ _ c.is_word.ensures.is c.if-is_word.false) (c.as_bytes.ensures ∙ c.name_of-name.ensures ∙ e)) (λ e. (word_no c.is_word-else-is_word.result _ _ c.is_word-else-is_word.ensures.is c.if-is_word-2.false) (c.as_bytes-else-is_word.ensures ∙ c.name_of-name.ensures ∙ e)) (λ e. (word_no c.is_word-else-is_word-2.result _ _ c.is_word-else-is_word-2.ensures.is c.if-is_word-3.false) (c.as_bytes-else-is_word-2.ensures ∙ c.name_of-name.ensures ∙ e))

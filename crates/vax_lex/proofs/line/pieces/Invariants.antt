@@ -10,7 +10,7 @@ invariant-loop-pieces l = record {
   in_range : l.at ≤ length l.line;
   brackets : open_brackets (place_view l.context.place) ≤ l.at;
   so_far : SoFar l.line l.at l.pieces.items;
-  same : l.pieces.items ++ pieces_from (context_view l.context) l.at 0 (drop l.at l.line) ≡ pieces_of l.line;
+  same : l.pieces.items ++ pieces_from l.dialect (context_view l.context) l.at 0 (drop l.at l.line) ≡ pieces_of l.dialect l.line;
 }
 
 abbrev pub decreases-loop-pieces : goal.decreases-loop-pieces

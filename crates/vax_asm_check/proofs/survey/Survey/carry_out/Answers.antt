@@ -26,7 +26,7 @@ returns-in_ok-keep-in-Stands-clause-goes c =
     let is = subst (λ q. IsPlaced q a.standing b.standing a.assignments b.assignments p) c.in-Stands.is c.in_ok-placed.ensures in
     let many : c.len-before.result ≡ length old.left.assignments.items = search rules in
     let circle = c.in_ok-circle-in-Stands.ensures a.assignments (waiting_in p) (length-map old.left.assignments.items assignment_of ∙ sym many) (ap (map assignment_of) c.deref.ensures.value ∙ is.1) in
-    λ next. goes_stands o text a b old.ended old.faults.list.items (cons_option c.in_ok-circle-in-Stands.circle []) next c.requires.goes is.0 (stands_again p a b.standing b.assignments is.0 is.1) circle
+    λ next. goes_stands o text a b old.ended old.faults.items (cons_option c.in_ok-circle-in-Stands.circle []) next c.requires.goes is.0 (stands_again p a b.standing b.assignments is.0 is.1) circle
     ∙ ap (λ l. with_faults l (next b None)) (sym c.in_ok-add-in-Stands.ensures)
 
 pub returns-in_ok-keep-in-Stands-clause-kept : goal.returns-in_ok-keep-in-Stands-clause-kept
@@ -51,7 +51,7 @@ returns-in_ok-add-in-FaultyLabel-clause-goes c =
     let b = left_of (record { standing = c.place.new.standing; assignments = c.place.new.assignments }) in
     let p = placed o text a.standing in
     let is = subst (λ q. IsPlaced q a.standing b.standing a.assignments b.assignments p) c.in-FaultyLabel.is c.in_ok-placed.ensures in
-    λ next. goes_label o text a b old.ended old.faults.list.items c.in-FaultyLabel.kind next c.requires.goes is.0 (same_assembly a b.standing b.assignments is.1 is.2)
+    λ next. goes_label o text a b old.ended old.faults.items c.in-FaultyLabel.kind next c.requires.goes is.0 (same_assembly a b.standing b.assignments is.1 is.2)
     ∙ ap (λ l. with_faults l (next b None)) (sym c.in_ok-add-in-FaultyLabel.ensures)
 
 pub returns-in_ok-self-in-Faulty-clause-goes : goal.returns-in_ok-self-in-Faulty-clause-goes
@@ -69,5 +69,5 @@ returns-in_ok-self-in-Faulty-clause-goes c =
     let circle = c.in_ok-circle-in-Faulty.ensures a.assignments (waiting_in p) (length-map old.left.assignments.items assignment_of ∙ sym many) (ap (map assignment_of) c.deref-in-Faulty.ensures.value ∙ is.1) in
     let again : b ≡ a = c.in_ok-self-in-Faulty.ensures ∙ ap (λ l. restated (map said_of l) (nothing old.dialect)) c.deref-in-Faulty-2.ensures.value ∙ c.requires.kept in
     let all = c.in_ok-add-in-Faulty-2.ensures ∙ ap (λ (l : List Fault). l ++ told) c.in_ok-add-in-Faulty.ensures in
-    λ next. goes_faulty o text a b old.ended old.faults.list.items told c.in-Faulty.kind next c.requires.goes is.0 again circle
+    λ next. goes_faulty o text a b old.ended old.faults.items told c.in-Faulty.kind next c.requires.goes is.0 again circle
     ∙ ap (λ l. with_faults l (next b (Some o.place))) (sym all)

@@ -10,4 +10,4 @@ pub returns-in-None : goal.returns-in-None
 returns-in-None c =
     let old = c.args.self in
     let none = sym c.open_begin.ensures ∙ ap (option_map opening_of) c.in-None.is in
-    λ o is. stopped_found c.stop_at.result (unclosed_of c.args.expander.now) old.faults.list.items (read_of c.args.expander.now) c.args.line c.lines_read.result c.args.kind (left_of old.left) old.ended none c.lines_read.ensures c.stop_at.ensures o is
+    λ o is. stopped_found c.stop_at.result (unclosed_of c.args.expander.now) old.faults.items (read_of c.args.expander.now) c.args.line c.lines_read.result c.args.kind (left_of old.left) old.ended none c.lines_read.ensures c.stop_at.ensures o is

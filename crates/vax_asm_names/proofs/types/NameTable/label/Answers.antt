@@ -1,3 +1,5 @@
+use Rattle.std.proofs.Common.{arith}
+use Rattle.std.proofs.lemmas.List.{length-set}
 use Rattle.vax_asm_names.specs.Names.{labelled}
 use Rattle.vax_asm_names.specs.View.{names_of}
 use Rattle.vax_asm_names.proofs.Changing.{one_becomes}
@@ -5,3 +7,9 @@ use Rattle.vax_asm_names.proofs.types.NameTable.label.Goals as goal
 
 pub returns : goal.returns
 returns c = one_becomes c.label.result (names_of c.args.self.now) c.args.self.now.names.items c.args.number c.index_mut.result.now c.label.new.self labelled c.requires c.index_mut.ensures.value c.label.ensures
+
+pub invariant_of-self-clause-in_block : goal.invariant_of-self-clause-in_block
+invariant_of-self-clause-in_block c = c.args.self.now.in_block
+
+pub invariant_of-self-clause-in_range : goal.invariant_of-self-clause-in_range
+invariant_of-self-clause-in_range c = λ text i e. omega (arith, c.args.self.now.in_range text i e, length-set c.args.self.now.names.items c.args.number c.label.new.self)

@@ -10,4 +10,4 @@ pub invariant_of-drop : goal.invariant_of-drop
 invariant_of-drop c =
     let before = c.replace-tables.result in
     let sources = sources_of before.tables.definitions in
-    record { in_range = block_is_in (scope_in before.tables) (record { names = names_of c.begin_block.new.self; sources = sources }) before.in_range (ap (λ (n : Names). record { names = n; sources = sources }) c.begin_block.ensures) }
+    record { in_range = block_is_in (scope_in before.tables) (record { names = names_of c.begin_block.new.self; sources = sources }) before.in_range (ap (λ (n : Names). record { names = n; sources = sources }) c.in_ok-begin_block.ensures) }

@@ -3,7 +3,7 @@ use Rattle.vax_pager.proofs.Start.{paging_new, sound_new}
 use Rattle.vax_pager.proofs.store.Store.new.Goals as goal
 
 pub returns-clause-sound : goal.returns-clause-sound
-returns-clause-sound c = sound_new _ c.args.frames c.requires.few c.areas.ensures.sound (record {
+returns-clause-sound c = sound_new _ c.args.frames c.requires.few c.in_ok-tables.ensures.space (record {
   tables = c.in_ok-tables.ensures.walked;
   kept = c.in_ok-tables.ensures.kept;
   buffer = c.new-4.ensures.entries;

@@ -1,0 +1,3 @@
+mod Ending
+mod Naming
+mod Telling
