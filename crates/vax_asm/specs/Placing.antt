@@ -1,8 +1,9 @@
 -- What a statement does (VAX MACRO and Instruction Set Reference Manual, "VAX MACRO source statement format").
-use Rattle.std.specs.Prelude.{ℕ, ◌^◌, ◌-◌, Bool, true, false, nat_lt, if◌then◌else◌, List, map, Option, Some, None, Result, Ok, Err}
+use Rattle.std.specs.Prelude.{ℕ, ◌^◌, ◌-◌, Bool, true, false, nat_lt, if◌then◌else◌, List, [], ◌∷◌, map, Option, Some, None, Result, Ok, Err}
 use Rattle.std.specs.List.{list_all, list_any}
 use Rattle.vax_asm_data.specs.Data.{Plain, Counted_first, Zero_last, Described, data_stated, addresses_stated, text_stated, space_stated, align_stated, even_stated, odd_stated}
 use Rattle.vax_asm_instruction.specs.Stating.{instruction_stated, reference_stated}
+use Rattle.vax_asm_instruction.specs.Typing.{typed_operand}
 use Rattle.vax_dialect.specs.declared.Dialect.{Dialect}
 use Rattle.vax_isa.specs.Instructions.{Instruction}
 use Rattle.vax_isa.specs.Rows.{row_of, with_name}
@@ -18,12 +19,16 @@ use Rattle.vax_macro.specs.declared.error.FaultKind.TheVariants as fault
 use Rattle.vax_asm_labels.specs.Contexts.{restored_stated, saved_stated}
 use Rattle.vax_asm_labels.specs.Defaults.{default_stated}
 use Rattle.vax_asm_labels.specs.Functions.{functions_stated}
+use Rattle.vax_asm_labels.specs.Numbers.{number_stated}
 use Rattle.vax_asm_labels.specs.Naming.{Assigned, label_stated, assignment_stated, section_stated, entry_stated, names_stated, end_stated}
+use Rattle.vax_asm_names.specs.declared.types.Linkage.TheVariants as links
 use Rattle.vax_asm_first.specs.Faults.{first_of}
 use Rattle.vax_asm_first.specs.Fixups.{Assignment as Waiting}
-use Rattle.vax_asm_first.specs.Standing.{Standing}
+use Rattle.vax_asm_first.specs.Progress.{Counted}
+use Rattle.vax_asm_first.specs.Standing.{Standing, with_scope}
 use Rattle.vax_asm_first.specs.declared.types.Origin.{Origin}
 use Rattle.vax_asm_statement.specs.Directives.{directive_of}
+use Rattle.vax_asm_statement.specs.Parts.{parts}
 use Rattle.vax_asm_statement.specs.Reading.{Parsed, What, Nothing, Assignment, Operation, Malformed, parsed}
 use Rattle.vax_asm_statement.specs.declared.directives.Directive.{Directive}
 use Rattle.vax_asm_statement.specs.declared.directives.Directive.TheVariants as directive
@@ -67,6 +72,27 @@ directive_named dialect name = if in_ascii name then directive_of dialect name e
 abbrev pub instruction_named : List ℕ → Option Instruction
 instruction_named name = if in_ascii name then with_name name else None
 
+-- a name is assigned the type of an operand, once that is known
+abbrev pub type_assigned : Origin → List ℕ → (name : List Token) → Result ℕ FaultKind → Standing → Result Standing FaultKind
+type_assigned origin line name (Ok n) s = number_stated origin line name n s
+type_assigned origin line name (Err kind) s = Err kind
+
+abbrev pub type_of_operand : Origin → List ℕ → (name operand : List Token) → Standing → Result Standing FaultKind
+type_of_operand origin line name [] s = number_stated origin line name 0 s
+type_of_operand origin line name (t ∷ operand) s =
+    let c : Counted = typed_operand origin line (t ∷ operand) s in
+    type_assigned origin line name c.number (with_scope c.scope s)
+
+-- `.NTYPE name,operand`; no operand has the type 0
+abbrev pub type_by : Origin → List ℕ → List (List Token) → Standing → Result Standing FaultKind
+type_by origin line [] s = Err fault.Count
+type_by origin line (name ∷ []) s = type_of_operand origin line name [] s
+type_by origin line (name ∷ operand ∷ []) s = type_of_operand origin line name operand s
+type_by origin line (name ∷ operand ∷ more ∷ others) s = Err fault.Count
+
+abbrev pub type_stated : Origin → List ℕ → List Token → Standing → Result Standing FaultKind
+type_stated origin line tokens s = type_by origin line (parts tokens) s
+
 abbrev pub directed : Directive → Origin → List ℕ → List Token → Standing → Result Standing FaultKind
 directed directive.Section origin line tokens s = section_stated line tokens s
 directed directive.Entry origin line tokens s = entry_stated origin line tokens s
@@ -81,14 +107,17 @@ directed (directive.Reference size) origin line tokens s = reference_stated size
 directed directive.Align origin line tokens s = align_stated origin line tokens s
 directed directive.Even origin line tokens s = even_stated tokens s
 directed directive.Odd origin line tokens s = odd_stated tokens s
-directed directive.Global origin line tokens s = names_stated true line tokens s
-directed directive.External origin line tokens s = names_stated false line tokens s
+directed directive.Global origin line tokens s = names_stated links.Global line tokens s
+directed directive.Weak origin line tokens s = names_stated links.Weak line tokens s
+directed directive.External origin line tokens s = names_stated links.External line tokens s
 directed directive.Enable origin line tokens s = functions_stated true line tokens s
 directed directive.Disable origin line tokens s = functions_stated false line tokens s
 directed directive.Default origin line tokens s = default_stated line tokens s
 directed directive.Save origin line tokens s = saved_stated line tokens s
 directed directive.Restore origin line tokens s = restored_stated tokens s
 directed directive.Listing origin line tokens s = Ok s
+directed directive.OperandType origin line tokens s = type_stated origin line tokens s
+directed directive.Error origin line tokens s = Err fault.Message
 directed directive.End origin line tokens s = end_stated line tokens s
 
 abbrev pub instructed : Option Instruction → Origin → List ℕ → List Token → Standing → Result Standing FaultKind
@@ -155,9 +184,10 @@ stated_by origin line (Some label) what s = behind_label origin line what s (lab
 unfoldable pub stated : Origin → List ℕ → Parsed → Standing → Placed
 stated origin line p s = stated_by origin line p.label p.what s
 
--- The rest of a listing directive's line may hold anything.
+-- The rest of a line of a listing directive, and of a message that is a fault, may hold anything.
 abbrev pub is_listing_by : Option Directive → Bool
 is_listing_by (Some directive.Listing) = true
+is_listing_by (Some directive.Error) = true
 is_listing_by _ = false
 
 abbrev pub is_listing : Dialect → List ℕ → What → Bool

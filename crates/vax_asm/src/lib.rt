@@ -11,6 +11,7 @@ mod met;
 mod placing;
 mod refusing;
 mod tokens;
+mod types;
 mod walk;
 
 pub use error::AsmError;

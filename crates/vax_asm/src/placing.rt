@@ -14,6 +14,7 @@ ghost use Rattle.vax_asm_first.specs.View.{standing_of, Stands, States};
 ghost use Rattle.vax_asm_statement.specs.Reading.{body_seen, parsed, statement_seen};
 
 use crate::tokens::{are_tokens, directive, has_bad, has_wide, instruction, tokens_of};
+use crate::types::operand_type;
 use std::alloc::Global;
 use std::rc::Rc;
 use vax_asm_data::{TextForm, addresses, align, data, even, odd, space, text};
@@ -22,6 +23,7 @@ use vax_asm_instruction::reference;
 use vax_asm_labels::{
     assignment, default, end, entry, functions, label, names, restore, save, section,
 };
+use vax_asm_scope::Linkage;
 use vax_asm_statement::{Body, Directive, Statement, read_statement, text_of};
 use vax_dialect::Dialect;
 use vax_lex::{Piece, Token, pieces};
@@ -79,14 +81,17 @@ fn direct(
         Directive::Align => align(standing, alloc, origin, line, operands),
         Directive::Even => even(standing, operands),
         Directive::Odd => odd(standing, operands),
-        Directive::Global => names(standing, alloc, line, true, operands),
-        Directive::External => names(standing, alloc, line, false, operands),
+        Directive::Global => names(standing, alloc, line, Linkage::Global, operands),
+        Directive::Weak => names(standing, alloc, line, Linkage::Weak, operands),
+        Directive::External => names(standing, alloc, line, Linkage::External, operands),
         Directive::Enable => functions(standing, alloc, line, true, operands),
         Directive::Disable => functions(standing, alloc, line, false, operands),
         Directive::Default => default(standing, alloc, line, operands),
         Directive::Save => save(standing, alloc, line, operands),
         Directive::Restore => restore(standing, alloc, operands),
+        Directive::OperandType => operand_type(standing, alloc, origin, line, operands),
         Directive::Listing => Ok(()),
+        Directive::Error => Err(Refused::Fault(FaultKind::Message)),
         Directive::End => end(standing, alloc, line, operands),
     }
 }
@@ -263,7 +268,7 @@ pub(crate) fn is_listing(dialect: Dialect, line: &[u8], body: Body<'_>) -> bool
 {
     match body {
         Body::Operation { name, .. } => match directive(dialect, text_of(line, name)) {
-            Some(Directive::Listing) => true,
+            Some(Directive::Listing | Directive::Error) => true,
             _ => false,
         },
         Body::Nothing | Body::Assignment { .. } | Body::Malformed => false,

@@ -15,6 +15,7 @@ use Rattle.vax_asm_causes.specs.Places.{are_same}
 use Rattle.vax_asm_causes.specs.Remarks as remarks
 use Rattle.vax_asm_causes.specs.declared.counts.Often.{Often}
 use Rattle.vax_asm_causes.specs.declared.counts.Often.TheVariants.{Again}
+use Rattle.vax_dialect.specs.declared.Dialect.{Dialect}
 use Rattle.vax_asm_names.proofs.Maps.{name_updates}
 use Rattle.vax_asm_names.specs.ByName.{by_name, with_entry}
 
@@ -61,8 +62,9 @@ with_names_behind [] more before = refl
 with_names_behind (name ∷ names) more before = with_names_behind names more (with_one name before)
 
 -- the names of one more line, and of no more
-pub line_counted : (line : Text) (more : List Text) (before : Text → Option Often) → with_names (remarks.line_names line ++ flat_map remarks.line_names more) before ≡ with_names (flat_map remarks.line_names more) (with_names (remarks.line_names line) before)
-line_counted line more before = with_names_behind (remarks.line_names line) (flat_map remarks.line_names more) before
+pub line_counted : (dialect : Dialect) (line : Text) (more : List Text) (before : Text → Option Often)
+    → with_names (remarks.line_names dialect line ++ flat_map (remarks.line_names dialect) more) before ≡ with_names (flat_map (remarks.line_names dialect) more) (with_names (remarks.line_names dialect line) before)
+line_counted dialect line more before = with_names_behind (remarks.line_names dialect line) (flat_map (remarks.line_names dialect) more) before
 
 -- ---- a name that stands once
 
@@ -99,5 +101,5 @@ unfolding with_names times_more
 counted name [] before = refl
 counted name (other ∷ names) before = counted name names (with_one other before) ∙ counted_once (is_same name other) other (filter (is_same name) names) (before name)
 
-pub stands_once : (source name : Text) (f : Text → Option Often) → f ≡ with_names (remarks.names_in source) never → is_once (f name) ≡ remarks.stands_once source name
-stands_once source name f e = ap (λ (g : Text → Option Often). is_once (g name)) e ∙ ap is_once (counted name (remarks.names_in source) never) ∙ once_by (length (filter (is_same name) (remarks.names_in source)))
+pub stands_once : (dialect : Dialect) (source name : Text) (f : Text → Option Often) → f ≡ with_names (remarks.names_in dialect source) never → is_once (f name) ≡ remarks.stands_once dialect source name
+stands_once dialect source name f e = ap (λ (g : Text → Option Often). is_once (g name)) e ∙ ap is_once (counted name (remarks.names_in dialect source) never) ∙ once_by (length (filter (is_same name) (remarks.names_in dialect source)))

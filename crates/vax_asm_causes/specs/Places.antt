@@ -4,7 +4,7 @@ use Rattle.std.specs.List.{list_any, position_from}
 use Rattle.std.specs.Str.{str_eq_ignore_ascii_case}
 use Rattle.vax_asm_causes.specs.declared.places.Sought.{Sought}
 use Rattle.vax_asm_causes.specs.declared.places.Sought.TheVariants.{Anywhere, Definition}
-use Rattle.vax_dialect.specs.declared.Dialect.TheVariants.{Vax}
+use Rattle.vax_dialect.specs.declared.Dialect.{Dialect}
 use Rattle.vax_lex.specs.Tokens.{pieces_of}
 use Rattle.vax_lex.specs.declared.token.Piece.{Piece}
 use Rattle.vax_lex.specs.declared.token.PieceKind.{PieceKind}
@@ -12,10 +12,9 @@ use Rattle.vax_lex.specs.declared.token.PieceKind.TheVariants.{Token}
 use Rattle.vax_lex.specs.declared.token.TokenKind.TheVariants.{Name, Mark}
 use Rattle.vax_lines.specs.Lines.{Text, lines}
 
--- The pieces of a line, of a long one those of its front. They are cut as in the smaller dialect, so what is told of `.ASCID` takes its
--- texts for tokens.
-abbrev pub line_pieces : Text → List Piece
-line_pieces line = pieces_of Vax (take 1024 line)
+-- The pieces of a line in a dialect, of a long one those of its front.
+abbrev pub line_pieces : Dialect → Text → List Piece
+line_pieces dialect line = pieces_of dialect (take 1024 line)
 
 -- the bytes of a piece
 unfoldable pub piece_text : Text → Piece → Text
@@ -50,10 +49,10 @@ begins_with_definition name line (p ∷ []) = false
 begins_with_definition name line (p ∷ q ∷ more) = (is_called name line p && (is_mark q 58 || is_mark q 61)) || (is_called (codes ".ENTRY") line p && is_called name line q)
 
 -- a name stands on a line, or is defined there
-abbrev pub is_on : Sought → (name line : Text) → Bool
-is_on Anywhere name line = list_any (is_called name line) (line_pieces line)
-is_on Definition name line = begins_with_definition name line (line_pieces line)
+abbrev pub is_on : Dialect → Sought → (name line : Text) → Bool
+is_on dialect Anywhere name line = list_any (is_called name line) (line_pieces dialect line)
+is_on dialect Definition name line = begins_with_definition name line (line_pieces dialect line)
 
 -- the number of the first such line of a source, counted from 1
-abbrev pub first_line : Sought → (name source : Text) → Option ℕ
-first_line sought name source = position_from (is_on sought name) 1 (lines source)
+abbrev pub first_line : Dialect → Sought → (name source : Text) → Option ℕ
+first_line dialect sought name source = position_from (is_on dialect sought name) 1 (lines source)

@@ -8,6 +8,7 @@ use Rattle.vax_asm_causes.specs.declared.places.Sought.TheVariants.{Anywhere}
 use Rattle.vax_asm_causes.specs.declared.remarks.About.{About}
 use Rattle.vax_asm_causes.specs.declared.remarks.About.TheVariants as about
 use Rattle.vax_asm_causes.specs.declared.remarks.Remark.{Remark}
+use Rattle.vax_dialect.specs.declared.Dialect.{Dialect}
 use Rattle.vax_lex.specs.declared.token.Piece.{Piece}
 use Rattle.vax_lines.specs.Lines.{Text, lines}
 
@@ -80,13 +81,13 @@ name_or [] other = other
 name_or (b ∷ name) other = b ∷ name
 
 -- the first such name in some lines
-unfoldable pub first_end : List Text → Text
-first_end [] = []
-first_end (line ∷ more) = name_or (end_name line (operation_of (line_pieces line))) (first_end more)
+unfoldable pub first_end : Dialect → List Text → Text
+first_end dialect [] = []
+first_end dialect (line ∷ more) = name_or (end_name line (operation_of (line_pieces dialect line))) (first_end dialect more)
 
 -- where a source says that its program begins
-abbrev pub start_of : (source : Text) → Text
-start_of source = first_end (lines source)
+abbrev pub start_of : Dialect → (source : Text) → Text
+start_of dialect source = first_end dialect (lines source)
 
 abbrev pub mask_at : (start : Text) → (number : ℕ) → (line : Text) → List Piece → List Remark
 mask_at start number line [] = []
@@ -100,15 +101,15 @@ mask_remarks start number line pieces = mask_at start number line (operation_of 
 -- ---- labels that nothing uses
 
 -- the names of a line, and of a source
-abbrev pub line_names : (line : Text) → List Text
-line_names line = map (piece_text line) (filter is_name (line_pieces line))
+abbrev pub line_names : Dialect → (line : Text) → List Text
+line_names dialect line = map (piece_text line) (filter is_name (line_pieces dialect line))
 
-abbrev pub names_in : (source : Text) → List Text
-names_in source = flat_map line_names (lines source)
+abbrev pub names_in : Dialect → (source : Text) → List Text
+names_in dialect source = flat_map (line_names dialect) (lines source)
 
 -- a name stands in a source once, in letters of either case
-abbrev pub stands_once : (source name : Text) → Bool
-stands_once source name = length (filter (λ other. are_same other name) (names_in source)) == 1
+abbrev pub stands_once : Dialect → (source name : Text) → Bool
+stands_once dialect source name = length (filter (λ other. are_same other name) (names_in dialect source)) == 1
 
 -- a local label: digits and a `$`
 abbrev pub is_local : (name : Text) → Bool
@@ -120,23 +121,23 @@ own_label (p ∷ q ∷ []) = if is_name p && is_mark q 58 then Some p else None
 own_label (p ∷ q ∷ r ∷ pieces) = if is_name p && is_mark q 58 && not (is_mark r 58) then Some p else None
 own_label pieces = None
 
-abbrev pub is_unused : (source name : Text) → Bool
-is_unused source name = not (is_local name) && stands_once source name
+abbrev pub is_unused : Dialect → (source name : Text) → Bool
+is_unused dialect source name = not (is_local name) && stands_once dialect source name
 
-abbrev pub unused_at : (source : Text) → (number : ℕ) → (line : Text) → Option Piece → List Remark
-unused_at source number line None = []
-unused_at source number line (Some p) = if is_unused source (piece_text line p) then remark_on about.Unused number p ∷ [] else []
+abbrev pub unused_at : Dialect → (source : Text) → (number : ℕ) → (line : Text) → Option Piece → List Remark
+unused_at dialect source number line None = []
+unused_at dialect source number line (Some p) = if is_unused dialect source (piece_text line p) then remark_on about.Unused number p ∷ [] else []
 
 -- a label that is no local one and whose name stands nowhere else
-abbrev pub unused_remarks : (source : Text) → (number : ℕ) → (line : Text) → List Piece → List Remark
-unused_remarks source number line pieces = unused_at source number line (own_label pieces)
+abbrev pub unused_remarks : Dialect → (source : Text) → (number : ℕ) → (line : Text) → List Piece → List Remark
+unused_remarks dialect source number line pieces = unused_at dialect source number line (own_label pieces)
 
 -- ---- where a name stands first
 
 -- the number of that line, of no name none
-abbrev pub first_place : (name source : Text) → Option ℕ
-first_place [] source = None
-first_place (b ∷ name) source = first_line Anywhere (b ∷ name) source
+abbrev pub first_place : Dialect → (name source : Text) → Option ℕ
+first_place dialect [] source = None
+first_place dialect (b ∷ name) source = first_line dialect Anywhere (b ∷ name) source
 
 abbrev pub is_at : ℕ → Option ℕ → Bool
 is_at number None = false
@@ -150,25 +151,25 @@ abbrev pub remarks_if : Bool → List Remark → List Remark
 remarks_if asked remarks = if asked then remarks else []
 
 -- that of the first such line
-abbrev pub place_remarks : (name source : Text) → (number : ℕ) → (line : Text) → List Piece → List Remark
-place_remarks name source number line pieces = remarks_if (is_at number (first_place name source)) (place_in name number line pieces)
+abbrev pub place_remarks : Dialect → (name source : Text) → (number : ℕ) → (line : Text) → List Piece → List Remark
+place_remarks dialect name source number line pieces = remarks_if (is_at number (first_place dialect name source)) (place_in name number line pieces)
 
 -- ---- all of them
 
 -- those on a line of these pieces
-unfoldable pub pieces_remarks : Asked → (source : Text) → (number : ℕ) → (line : Text) → List Piece → List Remark
-pieces_remarks asked source number line pieces =
-    place_remarks asked.name source number line pieces ++ register_remarks number line pieces
-    ++ remarks_if asked.bare (mask_remarks (start_of source) number line pieces) ++ remarks_if asked.unused (unused_remarks source number line pieces)
+unfoldable pub pieces_remarks : Dialect → Asked → (source : Text) → (number : ℕ) → (line : Text) → List Piece → List Remark
+pieces_remarks dialect asked source number line pieces =
+    place_remarks dialect asked.name source number line pieces ++ register_remarks number line pieces
+    ++ remarks_if asked.bare (mask_remarks (start_of dialect source) number line pieces) ++ remarks_if asked.unused (unused_remarks dialect source number line pieces)
 
-abbrev pub line_remarks : Asked → (source : Text) → (number : ℕ) → (line : Text) → List Remark
-line_remarks asked source number line = pieces_remarks asked source number line (line_pieces line)
+abbrev pub line_remarks : Dialect → Asked → (source : Text) → (number : ℕ) → (line : Text) → List Remark
+line_remarks dialect asked source number line = pieces_remarks dialect asked source number line (line_pieces dialect line)
 
 -- those on lines of a source, of which the first has this number
-unfoldable pub lines_remarks : Asked → (source : Text) → (number : ℕ) → List Text → List Remark
-lines_remarks asked source number [] = []
-lines_remarks asked source number (line ∷ more) = line_remarks asked source number line ++ lines_remarks asked source (number + 1) more
+unfoldable pub lines_remarks : Dialect → Asked → (source : Text) → (number : ℕ) → List Text → List Remark
+lines_remarks dialect asked source number [] = []
+lines_remarks dialect asked source number (line ∷ more) = line_remarks dialect asked source number line ++ lines_remarks dialect asked source (number + 1) more
 
 -- the first hundred of those on a source
-abbrev pub remarks : Asked → (source : Text) → List Remark
-remarks asked source = take 100 (lines_remarks asked source 1 (lines source))
+abbrev pub remarks : Dialect → Asked → (source : Text) → List Remark
+remarks dialect asked source = take 100 (lines_remarks dialect asked source 1 (lines source))

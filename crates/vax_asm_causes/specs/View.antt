@@ -10,6 +10,6 @@ asked_by wanted = record { bare = wanted.bare; unused = wanted.unused; name = wa
 
 -- The counts are those of all names of the source, the place is where the wanted name stands first, and the start is where the source says that its program begins.
 pub record IsRead (r : Reading) : Type 0 where
-  pub counted : often_in r.counts ≡ with_names (names_in r.source.now) never
-  pub placed : r.place ≡ first_place r.wanted.name.now r.source.now
-  pub started : r.start.now ≡ start_of r.source.now
+  pub counted : often_in r.counts ≡ with_names (names_in r.dialect r.source.now) never
+  pub placed : r.place ≡ first_place r.dialect r.wanted.name.now r.source.now
+  pub started : r.start.now ≡ start_of r.dialect r.source.now

@@ -6,26 +6,30 @@ ghost use Rattle.vax_asm_causes.specs.Printed.{ArePrinted};
 use crate::count::count_cause;
 use crate::facts::Facts;
 use crate::form::form_cause;
-use crate::names::{are_same, definition_of, is_local};
+use crate::names::{are_same, definition_beside, definition_of, is_local};
 use crate::range::range_cause;
 use crate::statement::{LONGEST, Statement, is_name, operands_of, parts_of, pieces_of, text_of};
 use crate::words::{Found, as_printed, at, cause_at, decimal};
 use std::alloc::Global;
+use vax_dialect::Dialect;
 use vax_lex::{Piece, PieceKind};
 use vax_macro::FaultKind;
 use vax_space::NoMemory;
 
-/// Where a fault stands: a source, the number of its line, and the text of a line, which may be one of an expansion; and what the
-/// assembler knows there.
+/// Where a fault stands: a source with its dialect, the number of its line, and the text of a line, which may be one of an expansion; the
+/// numbers of the lines that are refused, and so define nothing; and what the assembler knows there.
 #[derive(Clone, Copy)]
 pub struct Place<'a> {
+    pub dialect: Dialect,
     pub source: &'a [u8],
     pub number: u32,
     pub line: &'a [u8],
+    pub refused: &'a [u32],
     pub facts: &'a Facts,
 }
 
-/// The column of a fault, counted from 0, and words on its cause, which begin with a colon or are none.
+/// The column of a fault, counted from 0, and words on its cause, which begin with a colon or are none. Where the source says of itself that it is wrong,
+/// they are its comment.
 #[derive(Drop)]
 pub struct Cause {
     pub column: usize,
@@ -125,7 +129,7 @@ fn undefined_cause(
 /// Where the name stands that is defined twice.
 fn duplicate_cause(alloc: Global, place: Place<'_>, label: Piece) -> Result<Found, NoMemory> {
     let name = text_of(place.line, label);
-    match definition_of(place.source, name) {
+    match definition_beside(place.source, name, place.refused) {
         Some(number) if number < place.number && !is_local(name) => {
             let number = decimal(alloc, u64::from(number))?;
             cause_at(
@@ -159,6 +163,18 @@ fn lacking(name: &[u8]) -> &'static [u8] {
 fn nesting_cause(alloc: Global, place: Place<'_>, operator: Piece) -> Result<Found, NoMemory> {
     let words = lacking(text_of(place.line, operator));
     cause_at(alloc, operator.start, &[words])
+}
+
+/// What stands behind the first `;` behind an operator, without the blanks around; nothing where there is none.
+fn comment_of(line: &[u8], operator: Piece) -> &[u8] {
+    let mut rest = line.get(operator.end as usize..line.len()).unwrap_or(&[]);
+    while let Some((first, behind)) = rest.split_first() {
+        if *first == b';' {
+            return behind.trim_ascii();
+        }
+        rest = behind;
+    }
+    &[]
 }
 
 /// The cause of a fault in a statement.
@@ -197,6 +213,7 @@ fn cause_in(
             range_cause(alloc, place, operator, said.operands, &operands)
         }
         FaultKind::Nesting => nesting_cause(alloc, place, operator),
+        FaultKind::Message => cause_at(alloc, operator.start, &[comment_of(place.line, operator)]),
         FaultKind::Depth | FaultKind::Lines | FaultKind::Large => Ok(at(alloc, operator.start)),
     }
 }
@@ -210,7 +227,7 @@ pub fn cause_of(alloc: Global, place: Place<'_>, kind: FaultKind) -> Result<Caus
     ensures within { IfOk result (λ c. c.column ≤ length place.entry.line.now) }
     ensures printed { IfOk result (λ c. ArePrinted c.words.items) }
 {
-    let pieces = pieces_of(alloc, place.line)?;
+    let pieces = pieces_of(alloc, place.dialect, place.line)?;
     let cause = match pieces.first() {
         Some(first) => cause_in(alloc, place, kind, parts_of(&pieces), &pieces, *first)?,
         None => at(alloc, 0),

@@ -11,6 +11,7 @@ ghost use Rattle.vax_asm_names.specs.ByName.{by_name, with_entry};
 use crate::statement::{is_name, pieces_of, text_of};
 use std::alloc::Global;
 use std::collections::BTreeMap;
+use vax_dialect::Dialect;
 use vax_lex::Piece;
 use vax_lines::next_line;
 use vax_space::NoMemory;
@@ -99,23 +100,28 @@ fn count_pieces(
 }
 
 /// Counts the names of a line.
-fn count_line(alloc: Global, counts: &mut Counts, line: &[u8]) -> Result<(), NoMemory>
+fn count_line(
+    alloc: Global,
+    counts: &mut Counts,
+    dialect: Dialect,
+    line: &[u8],
+) -> Result<(), NoMemory>
     ensures { OnOk result (often_in counts.new
-        ≡ with_names (line_names line.now) (often_in counts.old)) }
+        ≡ with_names (line_names dialect line.now) (often_in counts.old)) }
 {
-    let pieces = pieces_of(alloc, line)?;
+    let pieces = pieces_of(alloc, dialect, line)?;
     count_pieces(alloc, counts, line, &pieces)
 }
 
-/// How often each name stands in a source.
+/// How often each name stands in a source of a dialect.
 #[tactic(auto, unfolding(crate::specs::Counts::with_names))]
-pub(crate) fn counts_of(alloc: Global, source: &[u8]) -> Result<Counts, NoMemory>
-    ensures { IfOk result (λ c. often_in c ≡ with_names (names_in source.now) never) }
+pub(crate) fn counts_of(alloc: Global, dialect: Dialect, source: &[u8]) -> Result<Counts, NoMemory>
+    ensures { IfOk result (λ c. often_in c ≡ with_names (names_in dialect source.now) never) }
 {
     let mut counts = BTreeMap::new(alloc);
     let mut rest = source;
     while let Some((line, behind)) = next_line(rest) {
-        count_line(alloc, &mut counts, line)?;
+        count_line(alloc, &mut counts, dialect, line)?;
         rest = behind;
     }
     Ok(counts)

@@ -45,7 +45,7 @@ fn origin_words(
     text: &[u8],
 ) -> Result<Vec<u8>, NoMemory> {
     if is_repeat(name) {
-        return match line_of_repeat(alloc, place.source, place.number, place.line, text)? {
+        return match line_of_repeat(alloc, place, text)? {
             Some(number) => {
                 let number = decimal(alloc, u64::from(number))?;
                 say(alloc, &[name, b", its line ", &number])
@@ -53,9 +53,9 @@ fn origin_words(
             None => say(alloc, &[name]),
         };
     }
-    let found = match line_in_macros(alloc, place.source, Some(name), text)? {
+    let found = match line_in_macros(alloc, place.dialect, place.source, Some(name), text)? {
         Some(found) => Some(found),
-        None => line_in_macros(alloc, place.source, None, text)?,
+        None => line_in_macros(alloc, place.dialect, place.source, None, text)?,
     };
     match found {
         Some(BodyLine { name, number }) => {
@@ -75,8 +75,8 @@ fn origin_words(
 pub fn expansion_of(alloc: Global, place: Place<'_>, text: &[u8]) -> Result<Vec<u8>, NoMemory>
     ensures { IfOk result (λ v. ArePrinted v.items) }
 {
-    let outer = pieces_of(alloc, place.line)?;
-    let inner = pieces_of(alloc, text)?;
+    let outer = pieces_of(alloc, place.dialect, place.line)?;
+    let inner = pieces_of(alloc, place.dialect, text)?;
     let name = name_in(place.line, &outer);
     if stands_in(place.line, text) || are_same(name, name_in(text, &inner)) {
         return as_printed(alloc, &[]);

@@ -7,6 +7,7 @@ use crate::statement::{
     text_between, text_of,
 };
 use std::alloc::Global;
+use vax_dialect::Dialect;
 use vax_isa::{Letter, OperandKind};
 use vax_lex::Piece;
 use vax_space::NoMemory;
@@ -104,8 +105,8 @@ fn length_of(line: &[u8], operand: &[Piece], kind: OperandKind) -> Option<u32> {
 /// # Errors
 ///
 /// [`NoMemory`] where memory is refused.
-pub fn branch_of(alloc: Global, line: &[u8]) -> Result<Option<Branch>, NoMemory> {
-    let pieces = pieces_of(alloc, line)?;
+pub fn branch_of(alloc: Global, dialect: Dialect, line: &[u8]) -> Result<Option<Branch>, NoMemory> {
+    let pieces = pieces_of(alloc, dialect, line)?;
     let Statement {
         operator,
         operands,
@@ -142,8 +143,12 @@ pub fn branch_of(alloc: Global, line: &[u8]) -> Result<Option<Branch>, NoMemory>
 /// # Errors
 ///
 /// [`NoMemory`] where memory is refused.
-pub fn expressions_in(alloc: Global, line: &[u8]) -> Result<Vec<Vec<u8>>, NoMemory> {
-    let pieces = pieces_of(alloc, line)?;
+pub fn expressions_in(
+    alloc: Global,
+    dialect: Dialect,
+    line: &[u8],
+) -> Result<Vec<Vec<u8>>, NoMemory> {
+    let pieces = pieces_of(alloc, dialect, line)?;
     let operands = operands_of(alloc, parts_of(&pieces).operands)?;
     let mut all = Vec::new(alloc);
     for operand in operands {

@@ -68,12 +68,22 @@ pub fn is_definition(line: &[u8], name: &[u8]) -> bool {
     matches!(rest.first(), Some(b':' | b'=')) && are_same(word, name)
 }
 
+/// Whether a line is among these.
+fn is_among(lines: &[u32], number: u32) -> bool {
+    lines.iter().any(|line| *line == number)
+}
+
 /// The first line that defines a name, as its label or by an assignment.
 pub fn definition_of(source: &[u8], name: &[u8]) -> Option<u32> {
+    definition_beside(source, name, &[])
+}
+
+/// The first line that defines a name, as its label or by an assignment, but for these lines.
+pub(crate) fn definition_beside(source: &[u8], name: &[u8], others: &[u32]) -> Option<u32> {
     let mut rest = source;
     let mut number: u32 = 1;
     while let Some((line, behind)) = next_line(rest) {
-        if is_definition(line, name) {
+        if is_definition(line, name) && !is_among(others, number) {
             return Some(number);
         }
         number = number.saturating_add(1);

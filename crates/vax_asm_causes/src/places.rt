@@ -7,6 +7,7 @@ ghost use Rattle.vax_asm_causes.specs.Places.{begins_with_definition, first_line
 use crate::names::are_same;
 use crate::statement::{is_mark, is_name, pieces_of, text_of};
 use std::alloc::Global;
+use vax_dialect::Dialect;
 use vax_lex::Piece;
 use vax_lines::next_line;
 use vax_space::NoMemory;
@@ -52,33 +53,40 @@ fn begins_with_definition(line: &[u8], pieces: &[Piece], name: &[u8]) -> bool
 }
 
 /// Whether a name stands on a line, or is defined there.
-fn is_on(alloc: Global, line: &[u8], name: &[u8], sought: Sought) -> Result<bool, NoMemory>
-    ensures { IfOk result (λ b. b ≡ is_on sought name.now line.now) }
+fn is_on(
+    alloc: Global,
+    dialect: Dialect,
+    line: &[u8],
+    name: &[u8],
+    sought: Sought,
+) -> Result<bool, NoMemory>
+    ensures { IfOk result (λ b. b ≡ is_on dialect sought name.now line.now) }
 {
-    let pieces = pieces_of(alloc, line)?;
+    let pieces = pieces_of(alloc, dialect, line)?;
     match sought {
         Sought::Anywhere => Ok(is_among(line, &pieces, name)),
         Sought::Definition => Ok(begins_with_definition(line, &pieces, name)),
     }
 }
 
-/// The number of the first line of a source on which a name stands, or is defined, counted from 1; none where there is no such line.
+/// The number of the first line of a source of a dialect on which a name stands, or is defined, counted from 1; none where there is no such line.
 ///
 /// # Errors
 ///
 /// [`NoMemory`] where memory is refused.
 pub fn first_line(
     alloc: Global,
+    dialect: Dialect,
     source: &[u8],
     name: &[u8],
     sought: Sought,
 ) -> Result<Option<usize>, NoMemory>
-    ensures { IfOk result (λ o. o ≡ first_line sought name.now source.now) }
+    ensures { IfOk result (λ o. o ≡ first_line dialect sought name.now source.now) }
 {
     let mut rest = source;
     let mut number: usize = 1;
     while let Some((line, behind)) = next_line(rest) {
-        if is_on(alloc, line, name, sought)? {
+        if is_on(alloc, dialect, line, name, sought)? {
             return Ok(Some(number));
         }
         number += 1;

@@ -11,6 +11,7 @@ use crate::names::is_local;
 use crate::places::{Sought, first_line, is_called};
 use crate::statement::{is_mark, is_name, operation_of, pieces_of, text_of};
 use std::alloc::Global;
+use vax_dialect::Dialect;
 use vax_lex::Piece;
 use vax_lines::next_line;
 use vax_space::NoMemory;
@@ -54,6 +55,7 @@ pub struct Wanted<'a> {
 /// begins, empty where it says none.
 #[derive(Drop)]
 struct Reading<'a> {
+    dialect: Dialect,
     wanted: Wanted<'a>,
     source: &'a [u8],
     counts: Counts,
@@ -123,12 +125,12 @@ fn end_name<'a>(line: &'a [u8], pieces: &[Piece]) -> &'a [u8]
 
 /// The name at which a source says that its program begins; empty where it says none.
 #[tactic(auto, unfolding(crate::specs::Remarks::first_end))]
-fn start_of<'a>(alloc: Global, source: &'a [u8]) -> Result<&'a [u8], NoMemory>
-    ensures { IfOk result (λ name. name.now ≡ start_of source.entry.now) }
+fn start_of<'a>(alloc: Global, dialect: Dialect, source: &'a [u8]) -> Result<&'a [u8], NoMemory>
+    ensures { IfOk result (λ name. name.now ≡ start_of dialect source.entry.now) }
 {
     let mut rest = source;
     while let Some((line, behind)) = next_line(rest) {
-        let pieces = pieces_of(alloc, line)?;
+        let pieces = pieces_of(alloc, dialect, line)?;
         let name = end_name(line, operation_of(&pieces));
         if !name.is_empty() {
             return Ok(name);
@@ -171,7 +173,7 @@ fn own_label(pieces: &[Piece]) -> Option<Piece>
 /// Whether a label is no local one, and stands nowhere else.
 fn is_unused(alloc: Global, reading: &Reading<'_>, name: &[u8]) -> Result<bool, NoMemory>
     requires { IsRead reading.now }
-    ensures { IfOk result (λ b. b ≡ is_unused reading.now.source.now name.now) }
+    ensures { IfOk result (λ b. b ≡ is_unused reading.now.dialect reading.now.source.now name.now) }
 {
     Ok(!is_local(name) && is_once(alloc, &reading.counts, name)?)
 }
@@ -185,7 +187,8 @@ fn remark_unused(
 ) -> Result<(), NoMemory>
     requires { IsRead reading.now }
     ensures { OnOk result (all.new.items ≡ all.old.items ++ unused_remarks
-        reading.now.source.now at.entry.number at.entry.line.now at.entry.pieces.now) }
+        reading.now.dialect reading.now.source.now
+        at.entry.number at.entry.line.now at.entry.pieces.now) }
 {
     let Some(label) = own_label(at.pieces) else {
         return Ok(());
@@ -216,7 +219,7 @@ fn remark_pieces(
 ) -> Result<(), NoMemory>
     requires { IsRead reading.now }
     ensures { OnOk result (all.new.items ≡ all.old.items ++ pieces_remarks
-        (asked_by reading.now.wanted) reading.now.source.now
+        reading.now.dialect (asked_by reading.now.wanted) reading.now.source.now
         at.entry.number at.entry.line.now at.entry.pieces.now) }
 {
     if is_at(at.number, reading.place) {
@@ -242,9 +245,9 @@ fn remark_line(
 ) -> Result<(), NoMemory>
     requires { IsRead reading.now }
     ensures { OnOk result (all.new.items ≡ all.old.items ++ line_remarks
-        (asked_by reading.now.wanted) reading.now.source.now number line.now) }
+        reading.now.dialect (asked_by reading.now.wanted) reading.now.source.now number line.now) }
 {
-    let pieces = pieces_of(alloc, line)?;
+    let pieces = pieces_of(alloc, reading.dialect, line)?;
     let at = Numbered {
         number,
         line,
@@ -254,27 +257,39 @@ fn remark_line(
 }
 
 /// Where a name stands first; of no name nowhere.
-fn first_place(alloc: Global, name: &[u8], source: &[u8]) -> Result<Option<usize>, NoMemory>
-    ensures { IfOk result (λ o. o ≡ first_place name.now source.now) }
+fn first_place(
+    alloc: Global,
+    dialect: Dialect,
+    name: &[u8],
+    source: &[u8],
+) -> Result<Option<usize>, NoMemory>
+    ensures { IfOk result (λ o. o ≡ first_place dialect name.now source.now) }
 {
     if name.is_empty() {
         return Ok(None);
     }
-    first_line(alloc, source, name, Sought::Anywhere)
+    first_line(alloc, dialect, source, name, Sought::Anywhere)
 }
 
 impl<'a> Reading<'a> {
-    fn new(alloc: Global, source: &'a [u8], wanted: Wanted<'a>) -> Result<Reading<'a>, NoMemory>
+    fn new(
+        alloc: Global,
+        dialect: Dialect,
+        source: &'a [u8],
+        wanted: Wanted<'a>,
+    ) -> Result<Reading<'a>, NoMemory>
+        ensures dialect { IfOk result (λ r. r.dialect ≡ dialect) }
         ensures read { IfOk result IsRead }
         ensures source { IfOk result (λ r. r.source ≡ source.entry) }
         ensures wanted { IfOk result (λ r. r.wanted ≡ wanted.entry) }
     {
         Ok(Reading {
+            dialect,
             wanted,
             source,
-            counts: counts_of(alloc, source)?,
-            place: first_place(alloc, wanted.name, source)?,
-            start: start_of(alloc, source)?,
+            counts: counts_of(alloc, dialect, source)?,
+            place: first_place(alloc, dialect, wanted.name, source)?,
+            start: start_of(alloc, dialect, source)?,
         })
     }
 }
@@ -293,7 +308,8 @@ fn cut(all: Vec<Remark>) -> Vec<Remark>
 fn remarks_in(alloc: Global, reading: &Reading<'_>) -> Result<Vec<Remark>, NoMemory>
     requires { IsRead reading.now }
     ensures { IfOk result
-        (λ v. v.items ≡ remarks (asked_by reading.now.wanted) reading.now.source.now) }
+        (λ v. v.items ≡ remarks reading.now.dialect (asked_by reading.now.wanted)
+        reading.now.source.now) }
 {
     let mut all = Vec::new(alloc);
     let mut number: usize = 1;
@@ -309,14 +325,19 @@ fn remarks_in(alloc: Global, reading: &Reading<'_>) -> Result<Vec<Remark>, NoMem
     Ok(cut(all))
 }
 
-/// The first hundred remarks on a source that are wanted, line by line.
+/// The first hundred remarks on a source of a dialect that are wanted, line by line.
 ///
 /// # Errors
 ///
 /// [`NoMemory`] where memory is refused.
-pub fn remarks_of(alloc: Global, source: &[u8], wanted: Wanted<'_>) -> Result<Vec<Remark>, NoMemory>
-    ensures { IfOk result (λ v. v.items ≡ remarks (asked_by wanted.entry) source.now) }
+pub fn remarks_of(
+    alloc: Global,
+    dialect: Dialect,
+    source: &[u8],
+    wanted: Wanted<'_>,
+) -> Result<Vec<Remark>, NoMemory>
+    ensures { IfOk result (λ v. v.items ≡ remarks dialect (asked_by wanted.entry) source.now) }
 {
-    let reading = Reading::new(alloc, source, wanted)?;
+    let reading = Reading::new(alloc, dialect, source, wanted)?;
     remarks_in(alloc, &reading)
 }

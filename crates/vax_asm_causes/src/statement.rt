@@ -20,11 +20,15 @@ fn front(line: &[u8], count: usize) -> &[u8]
     line.split_at(count.min(line.len())).0
 }
 
-/// The pieces of a line, of a long one those of its front.
-pub(crate) fn pieces_of(alloc: Global, line: &[u8]) -> Result<Vec<Piece>, NoMemory>
-    ensures { IfOk result (λ v. v.items ≡ line_pieces line.now) }
+/// The pieces of a line in a dialect, of a long one those of its front.
+pub(crate) fn pieces_of(
+    alloc: Global,
+    dialect: Dialect,
+    line: &[u8],
+) -> Result<Vec<Piece>, NoMemory>
+    ensures { IfOk result (λ v. v.items ≡ line_pieces dialect line.now) }
 {
-    match pieces(alloc, Dialect::Vax, front(line, LONGEST)) {
+    match pieces(alloc, dialect, front(line, LONGEST)) {
         Ok(all) => Ok(all),
         Err(_) => Err(NoMemory),
     }

@@ -2,9 +2,11 @@
 
 ghost use Rattle.std.specs.Prelude.{◌≤◌, length};
 
+use crate::cause::Place;
 use crate::names::{are_same, blanks, name_length};
 use crate::statement::{is_mark, is_name, pieces_of, text_of};
 use std::alloc::Global;
+use vax_dialect::Dialect;
 use vax_lex::Piece;
 use vax_lines::next_line;
 use vax_space::NoMemory;
@@ -150,19 +152,17 @@ fn behind_line(source: &[u8], number: u32) -> &[u8] {
     &[]
 }
 
-/// Which line of a repeat that the line with this number begins became this text.
+/// Which line of a repeat that this line begins became this text.
 pub(crate) fn line_of_repeat(
     alloc: Global,
-    source: &[u8],
-    number: u32,
-    header: &[u8],
+    header: Place<'_>,
     text: &[u8],
 ) -> Result<Option<u32>, NoMemory> {
-    let pieces = pieces_of(alloc, header)?;
+    let pieces = pieces_of(alloc, header.dialect, header.line)?;
     Ok(line_in(
-        header,
+        header.line,
         pieces.get(1..pieces.len()).unwrap_or(&[]),
-        behind_line(source, number),
+        behind_line(header.source, header.number),
         text,
     ))
 }
@@ -177,12 +177,13 @@ fn macro_named<'a, 'b>(line: &'a [u8], pieces: &'b [Piece]) -> Option<(&'a [u8],
 /// Which line of the macro that this line of a source begins became this text; of the one with this name, or of any.
 fn line_of_macro<'a>(
     alloc: Global,
+    dialect: Dialect,
     header: &'a [u8],
     body: &[u8],
     wanted: Option<&[u8]>,
     text: &[u8],
 ) -> Result<Option<BodyLine<'a>>, NoMemory> {
-    let pieces = pieces_of(alloc, header)?;
+    let pieces = pieces_of(alloc, dialect, header)?;
     let Some((name, formals)) = macro_named(header, &pieces) else {
         return Ok(None);
     };
@@ -200,6 +201,7 @@ fn line_of_macro<'a>(
 /// Which line of a macro of a source became this text: of the one with this name, or of any.
 pub(crate) fn line_in_macros<'a>(
     alloc: Global,
+    dialect: Dialect,
     source: &'a [u8],
     wanted: Option<&[u8]>,
     text: &[u8],
@@ -207,7 +209,7 @@ pub(crate) fn line_in_macros<'a>(
     let mut rest = source;
     while let Some((line, behind)) = next_line(rest) {
         if are_same(first_word(line), b".MACRO") {
-            if let Some(found) = line_of_macro(alloc, line, behind, wanted, text)? {
+            if let Some(found) = line_of_macro(alloc, dialect, line, behind, wanted, text)? {
                 return Ok(Some(found));
             }
         }

@@ -58,7 +58,8 @@ impl Left {
     #[tactic(auto, using(crate::proofs::Restating::stands_again))]
     fn restate(&mut self, alloc: Global, stated: &Stated) -> Result<(), NoMemory>
         ensures { OnOk result (left_of self.new
-            ≡ left_by (placed stated.now.origin stated.now.line.text.items (left_of self.old).standing)
+            ≡ left_by
+            (placed stated.now.origin stated.now.line.text.items (left_of self.old).standing)
             (left_of self.old)) }
     {
         let line = copied(alloc, &stated.line)?;

@@ -36,7 +36,7 @@ pub(crate) struct Survey {
 }
 
 /// Whether the line with this place has ended.
-fn is_ended(ended: Option<u32>, place: u32) -> bool
+pub(crate) fn is_ended(ended: Option<u32>, place: u32) -> bool
     ensures { result ≡ is_ended ended place }
 {
     match ended {
@@ -149,7 +149,8 @@ impl Survey {
     fn refuse(&mut self, origin: Origin, kind: FaultKind) -> Result<(), NoMemory>
         requires kept { IsKept self.old }
         requires goes { is_ended self.old.ended origin.place ≡ false }
-        ensures goes { OnOk result ((text : List ℕ) → IsRefused self.old.left.standing.dialect text kind
+        ensures goes { OnOk result ((text : List ℕ)
+            → IsRefused self.old.left.standing.dialect text kind
             → GoesOn origin text self.old self.new) }
         ensures kept { OnOk result (IsKept self.new) }
     {

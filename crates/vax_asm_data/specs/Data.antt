@@ -1,12 +1,12 @@
 -- The directives of data (VAX MACRO and Instruction Set Reference Manual, "VAX MACRO assembler directives": `.BYTE` to
 -- `.QUAD`, `.OCTA`, `.SIGNED_BYTE`, `.SIGNED_WORD`, `.ADDRESS`, `.ASCII` to `.ASCIZ`, `.ASCID`, `.BLKB` to `.BLKQ`, `.BLKO`, `.ALIGN`,
 -- `.EVEN`, `.ODD`).
-use Rattle.std.specs.Prelude.{ℕ, pos, ◌+◌, ◌-◌, ◌*◌, ◌/◌, ◌%◌, ◌^◌, Bool, true, false, ◌&&◌, nat_lt, nat_le, if◌then◌else◌, List, [], ◌∷◌, length, map, replicate, take, drop, Option, Some, None, Result, Ok, Err, codes}
+use Rattle.std.specs.Prelude.{ℕ, pos, ◌+◌, ◌-◌, ◌*◌, ◌/◌, ◌%◌, ◌^◌, Bool, true, false, ◌&&◌, ◌==◌, nat_lt, nat_le, if◌then◌else◌, List, [], ◌∷◌, length, map, replicate, take, drop, Option, Some, None, Result, Ok, Err, codes, is_some}
 use Rattle.std.specs.Int.{w64, int_wrapping_add}
 use Rattle.vax_asm_encode.specs.Operands.{item_bytes, item_field}
 use Rattle.vax_asm_encode.specs.declared.operand.DataKind.{DataKind}
 use Rattle.vax_asm_encode.specs.declared.operand.DataKind.TheVariants.{Number}
-use Rattle.vax_asm_sections.specs.Layout.{Zeros, Bytes, Field, current_of, gap, put, aligned}
+use Rattle.vax_asm_sections.specs.Layout.{Part, Zeros, Bytes, Field, current_of, gap, place_in, put, aligned}
 use Rattle.vax_dialect.specs.Differences.{has_empty_items, has_further_directives}
 use Rattle.vax_lex.specs.Characters.{spells}
 use Rattle.vax_lex.specs.Grammar.{symbols_of}
@@ -17,7 +17,7 @@ use Rattle.vax_lex.specs.declared.value.Value.TheVariants as value
 use Rattle.vax_macro.specs.declared.error.FaultKind.{FaultKind}
 use Rattle.vax_macro.specs.declared.error.FaultKind.TheVariants as fault
 use Rattle.vax_asm_first.specs.Faults.{first_of, lowest, fault_of_value, unless_place, number_of}
-use Rattle.vax_asm_first.specs.Fixups.{Filling, Known, filling_by}
+use Rattle.vax_asm_first.specs.Fixups.{Filling, Fixup, Known, filling_by}
 use Rattle.vax_asm_first.specs.Progress.{Site, Progress, begun, joined, done, added, Counted, counted, site_of}
 use Rattle.vax_asm_first.specs.Standing.{Standing, Told, here_at, here_in, misplaces, told, with_scope, with_sections}
 use Rattle.vax_asm_first.specs.declared.types.Content.TheVariants.{Data}
@@ -27,6 +27,10 @@ use Rattle.vax_asm_scope.specs.Used.{uses_place}
 use Rattle.vax_asm_statement.specs.Items.{Item, item_of, whole, name_alone, Piece, Characters, Value as ByteValue, pieces_of}
 use Rattle.vax_asm_statement.specs.Parts.{parts}
 use Rattle.vax_word.specs.declared.Size.TheVariants as size
+
+-- More items than a module can have are a fault, and in an absolute section all are.
+abbrev pub too_many : Standing → FaultKind
+too_many s = if is_some (current_of s.sections).absolute then fault.Form else fault.Large
 
 -- An item of data: an expression that a field of this kind holds, so many times.
 abbrev pub fixed : DataKind → Site → ℕ → Filling → Standing → Progress
@@ -234,10 +238,14 @@ abbrev pub behind_fill : ℕ → Result Standing FaultKind → Result Standing F
 behind_fill k (Ok s) = with_sections s (aligned k s.sections)
 behind_fill k (Err kind) = Err kind
 
+-- so many times this byte; zeros alone are room
+abbrev pub filling_with : (byte n : ℕ) → Part Fixup
+filling_with byte n = if byte == 0 then Zeros n else Bytes (replicate n byte)
+
 abbrev pub filled_to : (byte k : ℕ) → Standing → Result Standing FaultKind
 filled_to byte k s =
-    let n = gap (current_of s.sections).size (2 ^ k) in
-    behind_fill k (with_sections s (put n (Bytes (replicate n byte)) s.sections))
+    let n = gap (place_in (current_of s.sections)) (2 ^ k) in
+    behind_fill k (with_sections s (put n (filling_with byte n) s.sections))
 
 abbrev pub filled_by : Standing → (boundary byte : Result ℕ FaultKind) → Result Standing FaultKind
 filled_by s (Ok k) (Ok byte) = filled_to byte k s
@@ -274,13 +282,13 @@ even_stated (t ∷ tokens) s = Err fault.Count
 -- a place of the section at which it goes on: zero bytes up to it
 abbrev pub forward : ℕ → Standing → Result Standing FaultKind
 forward to s =
-    let size = (current_of s.sections).size in
-    if nat_lt to size then Err fault.Range else with_sections s (put (to - size) (Zeros (to - size)) s.sections)
+    let place = place_in (current_of s.sections) in
+    if nat_lt to place then Err fault.Range else with_sections s (put (to - place) (Zeros (to - place)) s.sections)
 
 -- `.ODD`: a zero byte, where the next one would have an even place in its section; it has no operands
 abbrev pub to_odd : ℕ → ℕ
-to_odd size = 1 - size % 2
+to_odd place = 1 - place % 2
 
 unfoldable pub odd_stated : List Token → Standing → Result Standing FaultKind
-odd_stated [] s = with_sections s (put (to_odd (current_of s.sections).size) (Zeros (to_odd (current_of s.sections).size)) s.sections)
+odd_stated [] s = with_sections s (put (to_odd (place_in (current_of s.sections))) (Zeros (to_odd (place_in (current_of s.sections)))) s.sections)
 odd_stated (t ∷ tokens) s = Err fault.Count

@@ -1,18 +1,19 @@
 // Room and boundaries.
 
 ghost use Rattle.std.specs.Prelude.{◌≡◌, ◌≤◌, ◌<◌, ◌^◌, All, IfOk, IfSome, OnOk, Ok, length, replicate};
-ghost use Rattle.vax_asm_data.specs.Data.{align_by, align_stated, boundary, boundary_named, boundary_of, byte_of, even_stated, fill_where, filled_to, forward, odd_stated, power, room, space_stated, unless_here};
+ghost use Rattle.vax_asm_data.specs.Data.{align_by, align_stated, boundary, boundary_named, boundary_of, byte_of, even_stated, fill_where, filled_to, filling_with, forward, odd_stated, power, room, space_stated, unless_here};
 ghost use Rattle.vax_dialect.specs.Differences.{has_further_directives};
 ghost use Rattle.vax_lex.specs.Tokens.{IsTokenOf};
 ghost use Rattle.vax_asm_sections.specs.Layout.{gap};
-ghost use Rattle.vax_asm_first.specs.View.{counted_of, site_seen, standing_of, Stands, ChangesScope, States};
+ghost use Rattle.vax_asm_sections.specs.View.{part_of};
+ghost use Rattle.vax_asm_first.specs.View.{counted_of, part_seen, site_seen, standing_of, Stands, ChangesScope, States};
 ghost use Rattle.vax_asm_scope.specs.Kept.{scope_of};
 
 use std::alloc::Global;
 use std::rc::Rc;
 use vax_asm_encode::DataKind;
 use vax_asm_first::{
-    FaultKind, Origin, Refused, Site, Standing, first_of, known_count, number_of, site_of,
+    FaultKind, Fixup, Origin, Refused, Site, Standing, first_of, known_count, number_of, site_of,
 };
 use vax_asm_scope::uses_place;
 use vax_asm_sections::Piece;
@@ -181,6 +182,17 @@ fn repeated(alloc: Global, byte: u8, count: u32) -> Result<Vec<u8>, NoMemory>
     vec![in alloc; byte; count as usize].map_err(|_| NoMemory)
 }
 
+/// A byte, so many times, as a part of a section; zeros alone are room.
+fn filling_with(alloc: Global, byte: u8, count: u32) -> Result<Piece<Fixup>, NoMemory>
+    ensures { IfOk result (λ p. part_seen (part_of p) ≡ filling_with byte count) }
+{
+    if byte == 0 {
+        Ok(Piece::Zeros(count))
+    } else {
+        Ok(Piece::Bytes(repeated(alloc, byte, count)?))
+    }
+}
+
 /// The bytes from a place up to the next multiple of a power of two.
 fn gap(size: u32, power: u8) -> u32
     requires { power ≤ 9 }
@@ -195,11 +207,11 @@ fn fill_to(standing: &mut Standing, alloc: Global, byte: u8, power: u8) -> Resul
     requires { power ≤ 9 }
     ensures { States (filled_to byte power) result standing.old standing.new }
 {
-    let more = gap(standing.section_size(), power);
-    let Ok(bytes) = repeated(alloc, byte, more) else {
+    let more = gap(standing.place(), power);
+    let Ok(piece) = filling_with(alloc, byte, more) else {
         return Err(Refused::NoMemory);
     };
-    standing.put(more, Piece::Bytes(bytes))?;
+    standing.put(more, piece)?;
     standing.align(power)
 }
 
@@ -288,7 +300,7 @@ pub fn odd(standing: &mut Standing, operands: &[Token]) -> Result<(), Refused>
     if !operands.is_empty() {
         return Err(Refused::Fault(FaultKind::Count));
     }
-    let bytes = 1 - standing.section_size() % 2;
+    let bytes = 1 - standing.place() % 2;
     standing.put(bytes, Piece::Zeros(bytes))
 }
 
@@ -300,11 +312,11 @@ pub fn odd(standing: &mut Standing, operands: &[Token]) -> Result<(), Refused>
 pub fn forward(standing: &mut Standing, to: u64) -> Result<(), Refused>
     ensures { States (forward to) result standing.old standing.new }
 {
-    let size = u64::from(standing.section_size());
-    if to < size {
+    let place = u64::from(standing.place());
+    if to < place {
         return Err(Refused::Fault(FaultKind::Range));
     }
-    let more = to - size;
+    let more = to - place;
     if more > MOST_BYTES {
         return Err(Refused::Fault(FaultKind::Large));
     }

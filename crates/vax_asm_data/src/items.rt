@@ -1,7 +1,7 @@
 // Items of data.
 
 ghost use Rattle.std.specs.Prelude.{◌≡◌, ◌<◌, ◌^◌, ℕ, List, All, IfOk, length, map};
-ghost use Rattle.vax_asm_data.specs.Data.{expression_stated, fixed, is_nothing, item_as, item_stated, zero_stated, items_stated, data_stated, addresses_stated};
+ghost use Rattle.vax_asm_data.specs.Data.{expression_stated, fixed, is_nothing, item_as, item_stated, zero_stated, items_stated, data_stated, addresses_stated, too_many};
 ghost use Rattle.vax_lex.specs.Tokens.{IsTokenOf};
 ghost use Rattle.vax_asm_first.specs.Progress.{begun, site_of};
 ghost use Rattle.vax_asm_first.specs.View.{filling_of, progress_of, site_seen, standing_of, Advances, States};
@@ -25,6 +25,17 @@ use vax_word::Size;
 /// More items than this have more bytes than a module can have.
 const MOST_ITEMS: u64 = 16_777_216;
 
+/// The fault of more items than a module can have: in an absolute section all are one.
+fn too_many(standing: &Standing) -> FaultKind
+    ensures { result ≡ too_many (standing_of standing.now) }
+{
+    if standing.in_absolute() {
+        FaultKind::Form
+    } else {
+        FaultKind::Large
+    }
+}
+
 /// An item without a fault.
 #[tactic(auto, using(crate::proofs::Limits::items_too_many, crate::proofs::Limits::bytes_fit))]
 pub(crate) fn fix(
@@ -38,7 +49,7 @@ pub(crate) fn fix(
         result standing.old standing.new }
 {
     if count > MOST_ITEMS {
-        return Ok(Some(FaultKind::Large));
+        return Ok(Some(too_many(standing)));
     }
     let count = count as u32;
     let fixup = Fixup {

@@ -58,7 +58,8 @@ fn piece_length(line: &[u8], piece: Piece<'_>) -> usize
 #[tactic(auto, using(crate::proofs::Folding::length_step))]
 fn count_of(line: &[u8], pieces: &[Piece<'_>], most: usize) -> Option<usize>
     requires { All (PieceWithin line.now) (map piece_seen pieces.now) }
-    ensures value { result ≡ count_within most (pieces_length line.now (map piece_seen pieces.now)) }
+    ensures value { result
+        ≡ count_within most (pieces_length line.now (map piece_seen pieces.now)) }
     ensures few { IfSome result (λ n. n ≤ most) }
 {
     let mut count = 0;

@@ -7,7 +7,7 @@ use Rattle.vax_asm.specs.Walk.{assembled}
 use Rattle.vax_asm_check.proofs.Beginning.{begin_refused}
 use Rattle.vax_asm_check.specs.Listed.{AreAll, BeginAt}
 use Rattle.vax_asm_errors.specs.Beginning.{BeginsAt}
-use Rattle.vax_asm_errors.specs.Errors.{IsErrors, ending, error, errors, headline, mark, line_at, message, noted, place}
+use Rattle.vax_asm_errors.specs.Errors.{IsErrors, ending, error, errors, headline, mark, line_at, noted, place, said_words}
 use Rattle.vax_asm_errors.specs.declared.said.Said.{Said}
 use Rattle.vax_asm_faults.proofs.Leasting.{has_none}
 use Rattle.vax_asm_faults.specs.Least.{IsFaultless}
@@ -46,18 +46,18 @@ none_told dialect title source before after m e is =
 
 -- ---- the first
 
-regroup : (p d c m w n k t : List ℕ) → p ++ d ++ c ++ m ++ w ++ n ++ k ++ t ≡ p ++ (d ++ (c ++ (m ++ (w ++ (n ++ (k ++ t))))))
-regroup p d c m w n k t = simp append_assoc
+regroup : (p d c w n k t : List ℕ) → p ++ d ++ c ++ w ++ n ++ k ++ t ≡ p ++ (d ++ (c ++ (w ++ (n ++ (k ++ t)))))
+regroup p d c w n k t = simp append_assoc
 
 -- an error begins with its place
 begins_place : (title : Title) (source : List ℕ) (s : Said) → (rest : List ℕ) × (error title source s ≡ place title s.fault.origin.line (s.column + 1) ++ rest)
 unfolding error headline
 begins_place title source s =
     let d : List ℕ = decimal (code_of s.fault.kind) in
-    let m : List ℕ = message s.fault.kind in
+    let w : List ℕ = said_words s.fault.kind s.cause.items in
     let k : List ℕ = mark (line_at s.fault.origin.line (lines source)) s.column in
     let t : List ℕ = noted title s.fault.origin.line s.expansion.items in
-    (d ++ (codes ": " ++ (m ++ (s.cause.items ++ (codes "\n" ++ (k ++ t))))), regroup (place title s.fault.origin.line (s.column + 1)) d (codes ": ") m s.cause.items (codes "\n") k t)
+    (d ++ (codes ": " ++ (w ++ (codes "\n" ++ (k ++ t)))), regroup (place title s.fault.origin.line (s.column + 1)) d (codes ": ") w (codes "\n") k t)
 
 first_said : (said : List Said) (f : Fault) (more : List Fault) → map (λ s. s.fault) said ≡ f ∷ more → (s : Said) × (rest : List Said) × (said ≡ s ∷ rest) × (s.fault ≡ f)
 first_said [] f more e = absurd cc

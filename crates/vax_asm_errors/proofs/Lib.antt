@@ -1,4 +1,5 @@
 pub mod Beginning
 pub mod Lines
 pub mod Listing
+pub mod Noting
 pub mod Saying

@@ -1,5 +1,5 @@
 -- The errors of a source as text.
-use Rattle.std.specs.Prelude.{◌≡◌, All, ℕ, ◌+◌, ◌-◌, Bool, ◌==◌, ◌&&◌, ◌||◌, not, nat_le, nat_lt, if◌then◌else◌, List, [], ◌∷◌, ◌++◌, length, map, take, codes, decimal}
+use Rattle.std.specs.Prelude.{◌≡◌, All, ℕ, ◌+◌, ◌-◌, Bool, true, false, ◌==◌, ◌&&◌, ◌||◌, not, nat_le, nat_lt, if◌then◌else◌, List, [], ◌∷◌, ◌++◌, length, map, take, codes, decimal}
 use Rattle.std.specs.List.{flat_map, position_or_len}
 use Rattle.vax_asm_check.specs.Listed.{AreAll}
 use Rattle.vax_asm_faults.specs.Refusal.{faults_of}
@@ -26,6 +26,27 @@ message fault.Nesting = codes "a begin has no end, or an end no begin"
 message fault.Depth = codes "macros, repeats or conditions stand in each other more than 64 deep"
 message fault.Lines = codes "more than 100,000 lines with those of expansions"
 message fault.Large = codes "a section or the module is too long"
+message fault.Message = codes "the source says that it is wrong here"
+
+-- the source says it itself
+abbrev pub is_message : FaultKind → Bool
+is_message fault.Token = false
+is_message fault.UnknownOperator = false
+is_message fault.Count = false
+is_message fault.Form = false
+is_message fault.Undefined = false
+is_message fault.Duplicate = false
+is_message fault.Range = false
+is_message fault.Nesting = false
+is_message fault.Depth = false
+is_message fault.Lines = false
+is_message fault.Large = false
+is_message fault.Message = true
+
+-- what is wrong, and words on the cause; a source that says it itself has words of its own
+abbrev pub said_words : FaultKind → (cause : Text) → Text
+said_words kind [] = message kind
+said_words kind (b ∷ cause) = if is_message kind then b ∷ cause else message kind ++ b ∷ cause
 
 -- the line with a number that counts from 1
 unfoldable pub line_at : ℕ → List Text → Text
@@ -70,7 +91,7 @@ noted title line (b ∷ expansion) = name_at title line ++ codes ":" ++ decimal 
 
 -- the first line of an error: its place, its kind, what that says, and words on its cause
 unfoldable pub headline : Title → Said → Text
-headline title s = place title s.fault.origin.line (s.column + 1) ++ decimal (code_of s.fault.kind) ++ codes ": " ++ message s.fault.kind ++ s.cause.items ++ codes "\n"
+headline title s = place title s.fault.origin.line (s.column + 1) ++ decimal (code_of s.fault.kind) ++ codes ": " ++ said_words s.fault.kind s.cause.items ++ codes "\n"
 
 -- an error: its first line, the line of the source with a mark below a column, and the line of an expansion
 unfoldable pub error : Title → (source : Text) → Said → Text

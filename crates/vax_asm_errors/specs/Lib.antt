@@ -1,3 +1,4 @@
 pub mod Beginning
 pub mod Errors
+pub mod Notes
 pub mod Remarks

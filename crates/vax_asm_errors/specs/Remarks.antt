@@ -1,12 +1,15 @@
 -- Remarks on a source as text.
-use Rattle.std.specs.Prelude.{◌≡◌, ◌+◌, ◌++◌, map, codes, decimal}
+use Rattle.std.specs.Prelude.{◌≡◌, ◌+◌, List, ◌++◌, All, map, codes, decimal}
 use Rattle.std.specs.List.{flat_map}
 use Rattle.vax_asm_causes.specs.Places.{piece_text}
 use Rattle.vax_asm_causes.specs.Remarks.{Asked, remarks}
 use Rattle.vax_asm_causes.specs.declared.remarks.About.{About}
 use Rattle.vax_asm_causes.specs.declared.remarks.About.TheVariants.{Place, Register, Mask, Unused}
 use Rattle.vax_asm_causes.specs.declared.remarks.Remark.{Remark}
-use Rattle.vax_asm_errors.specs.Errors.{line_at, mark, shown}
+use Rattle.vax_asm_errors.specs.Errors.{IsPlain, line_at, mark, shown}
+use Rattle.vax_asm_errors.specs.Notes.{note}
+use Rattle.vax_asm_errors.specs.declared.notes.Noted.{Noted}
+use Rattle.vax_dialect.specs.declared.Dialect.{Dialect}
 use Rattle.vax_lines.specs.Lines.{Text, lines}
 use Rattle.vax_prelude.specs.Preludes.{Title, name_at, number_at}
 
@@ -40,6 +43,8 @@ remark_at title asked line r =
 abbrev pub remark : Title → (source asked : Text) → Remark → Text
 remark title source asked r = remark_at title asked (line_at r.line (lines source)) r
 
--- Exactly these remarks on a source were added, each as its text.
-abbrev pub IsRemarked : Title → (source : Text) → Asked → (before after : Text) → Type 0
-IsRemarked title source asked before after = after ≡ before ++ flat_map (remark title source asked.name) (remarks asked source)
+-- Messages that a source of a dialect gives were added, whose words can be printed, and behind them exactly these remarks on it, each as its text.
+pub record IsRemarked (dialect : Dialect) (title : Title) (source : Text) (asked : Asked) (before after : Text) : Type 0 where
+  pub notes : List Noted
+  pub plain : All (λ n. IsPlain n.said) notes
+  pub text : after ≡ before ++ flat_map (note title source) notes ++ flat_map (remark title source asked.name) (remarks dialect asked source)

@@ -2,13 +2,14 @@
 
 ghost use Rattle.std.specs.Prelude.{◌≡◌, ◌++◌, ◌+◌, OnOk, decimal, take};
 ghost use Rattle.std.specs.List.{flat_map};
-ghost use Rattle.vax_asm_errors.specs.Errors.{IsErrors, count_words, ending, error, headline, mark, more_words, noted, place};
+ghost use Rattle.vax_asm_errors.specs.Errors.{IsErrors, count_words, ending, error, headline, mark, more_words, noted, place, said_words};
 ghost use Rattle.vax_prelude.specs.View.{title_seen};
 
 use crate::line::{line_at, push_line, push_under};
-use crate::messages::message;
+use crate::messages::{is_message, message};
 use crate::said::{Said, said_of};
 use std::alloc::Global;
+use vax_asm::FaultKind;
 use vax_asm_check::faults;
 use vax_asm_second::Fault;
 use vax_dialect::Dialect;
@@ -69,7 +70,7 @@ pub(crate) fn push_mark(out: &mut Vec<u8>, line: &[u8], column: u32) -> Result<(
 
 /// Appends the line of an expansion, if there is one.
 #[tactic(auto, unfolding(crate::specs::Errors::noted))]
-fn push_note(
+pub(crate) fn push_note(
     out: &mut Vec<u8>,
     title: Title<'_>,
     line: u32,
@@ -90,6 +91,20 @@ fn push_note(
     push(out, b"\n")
 }
 
+/// Appends what a fault of a kind is, and words on its cause. A source that says of itself that it is wrong has words of its own.
+fn push_said(out: &mut Vec<u8>, kind: FaultKind, cause: &[u8]) -> Result<(), NoMemory>
+    ensures { OnOk result (out.new.items ≡ out.old.items ++ said_words kind cause.now) }
+{
+    if cause.is_empty() {
+        return push(out, message(kind));
+    }
+    if is_message(kind) {
+        return push(out, cause);
+    }
+    push(out, message(kind))?;
+    push(out, cause)
+}
+
 /// Appends the first line of an error: its place, its kind, what that says, and words on its cause.
 #[tactic(auto, unfolding(crate::specs::Errors::headline))]
 fn push_headline(out: &mut Vec<u8>, title: Title<'_>, said: &Said) -> Result<(), NoMemory>
@@ -99,8 +114,7 @@ fn push_headline(out: &mut Vec<u8>, title: Title<'_>, said: &Said) -> Result<(),
     push_place(out, title, said.fault.origin.line, said.column)?;
     push_number(out, u64::from(said.fault.kind.code()))?;
     push(out, b": ")?;
-    push(out, message(said.fault.kind))?;
-    push(out, &said.cause)?;
+    push_said(out, said.fault.kind, &said.cause)?;
     push(out, b"\n")
 }
 

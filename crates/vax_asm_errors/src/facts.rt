@@ -89,7 +89,7 @@ fn push_values(
     here: Value,
     text: &[u8],
 ) -> Result<(), NoMemory> {
-    let expressions = expressions_in(alloc, text)?;
+    let expressions = expressions_in(alloc, standing.dialect, text)?;
     for text in expressions {
         if let Some(value) = number_of(alloc, standing, here, &text)? {
             facts
@@ -108,7 +108,7 @@ fn reach_here(
     here: Value,
     text: &[u8],
 ) -> Result<Option<i64>, NoMemory> {
-    let Some(Branch { target, length }) = branch_of(alloc, text)? else {
+    let Some(Branch { target, length }) = branch_of(alloc, standing.dialect, text)? else {
         return Ok(None);
     };
     let value = value_of(alloc, standing, here, &target)?;

@@ -6,12 +6,14 @@ mod facts;
 mod laws;
 mod line;
 mod messages;
+mod notes;
 mod remarks;
 mod said;
 mod walk;
 
 pub use errors::{MOST, Source, push_errors};
 pub use laws::{errors_begin_with_the_refusal, sources_that_assemble_have_no_errors};
+pub use notes::Noted;
 pub use remarks::push_remarks;
 pub use said::Said;
 pub use vax_asm_causes::Wanted;

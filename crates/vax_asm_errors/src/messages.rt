@@ -1,7 +1,7 @@
 // What is wrong, for each kind of fault.
 
 ghost use Rattle.std.specs.Prelude.{◌≡◌};
-ghost use Rattle.vax_asm_errors.specs.Errors.{message};
+ghost use Rattle.vax_asm_errors.specs.Errors.{is_message, message};
 
 use vax_macro::FaultKind;
 
@@ -24,5 +24,26 @@ pub(crate) fn message(kind: FaultKind) -> &'static [u8]
         FaultKind::Depth => b"macros, repeats or conditions stand in each other more than 64 deep",
         FaultKind::Lines => b"more than 100,000 lines with those of expansions",
         FaultKind::Large => b"a section or the module is too long",
+        FaultKind::Message => b"the source says that it is wrong here",
+    }
+}
+
+/// Whether the source says it itself.
+pub(crate) fn is_message(kind: FaultKind) -> bool
+    ensures { result ≡ is_message kind }
+{
+    match kind {
+        FaultKind::Message => true,
+        FaultKind::Token
+        | FaultKind::UnknownOperator
+        | FaultKind::Count
+        | FaultKind::Form
+        | FaultKind::Undefined
+        | FaultKind::Duplicate
+        | FaultKind::Range
+        | FaultKind::Nesting
+        | FaultKind::Depth
+        | FaultKind::Lines
+        | FaultKind::Large => false,
     }
 }

@@ -8,6 +8,7 @@ ghost use Rattle.vax_prelude.specs.View.{title_seen};
 
 use crate::errors::{Source, push, push_mark, push_number};
 use crate::line::{line_at, push_bytes};
+use crate::notes::{notes_of, push_messages};
 use std::alloc::Global;
 use vax_asm_causes::{About, Remark, Wanted, remarks_of, text_of};
 use vax_prelude::{Title, told_in};
@@ -61,7 +62,8 @@ fn push_on(
     one: &Remark,
 ) -> Result<(), NoMemory>
     ensures { OnOk result
-        (out.new.items ≡ out.old.items ++ remark_at (title_seen title.entry) asked.now line.now one.now) }
+        (out.new.items ≡ out.old.items
+        ++ remark_at (title_seen title.entry) asked.now line.now one.now) }
 {
     let (name, number) = told_in(title, one.line);
     push(out, name)?;
@@ -103,7 +105,8 @@ fn push_all(
     all: &[Remark],
 ) -> Result<(), NoMemory>
     ensures { OnOk result (out.new.items ≡ out.old.items
-        ++ flat_map (remark (title_seen source.entry.title) source.entry.text.now asked.now) all.now) }
+        ++ flat_map (remark (title_seen source.entry.title) source.entry.text.now asked.now)
+        all.now) }
 {
     for one in all {
         push_remark(out, source, asked, one)?;
@@ -111,7 +114,7 @@ fn push_all(
     Ok(())
 }
 
-/// Appends the remarks on a source that are wanted, where it has something that may not be meant, or that was told of before.
+/// Appends the messages that a source gives, and the remarks on it that are wanted, where it has something that may not be meant, or that was told of before.
 ///
 /// # Errors
 ///
@@ -122,9 +125,11 @@ pub fn push_remarks(
     source: Source<'_>,
     wanted: Wanted<'_>,
 ) -> Result<(), NoMemory>
-    ensures { OnOk result (IsRemarked (title_seen source.entry.title) source.entry.text.now
-        (asked_by wanted.entry) out.old.items out.new.items) }
+    ensures { OnOk result (IsRemarked source.entry.dialect (title_seen source.entry.title)
+        source.entry.text.now (asked_by wanted.entry) out.old.items out.new.items) }
 {
-    let all = remarks_of(alloc, source.text, wanted)?;
+    let notes = notes_of(alloc, source)?;
+    push_messages(out, source, &notes)?;
+    let all = remarks_of(alloc, source.dialect, source.text, wanted)?;
     push_all(out, source, wanted.name, &all)
 }

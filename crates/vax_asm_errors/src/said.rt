@@ -6,7 +6,7 @@ ghost use Rattle.vax_asm_errors.specs.Errors.{IsPlain};
 
 use crate::errors::Source;
 use crate::line::{indent, line_at};
-use crate::walk::{Seen, Statements, statements_of};
+use crate::walk::{Seen, Statements, refused_lines, statements_of};
 use std::alloc::Global;
 use vax_asm_causes::{Cause, Facts, Place, cause_of, expansion_of};
 use vax_asm_second::Fault;
@@ -28,11 +28,19 @@ fn as_column(column: usize) -> u32 {
 }
 
 /// Where a fault stands: the line with this text, and what is known there.
-fn place_of<'a>(source: Source<'a>, line: &'a [u8], facts: &'a Facts, fault: Fault) -> Place<'a> {
+fn place_of<'a>(
+    source: Source<'a>,
+    line: &'a [u8],
+    refused: &'a [u32],
+    facts: &'a Facts,
+    fault: Fault,
+) -> Place<'a> {
     Place {
+        dialect: source.dialect,
         source: source.text,
         number: fault.origin.line,
         line,
+        refused,
         facts,
     }
 }
@@ -73,9 +81,10 @@ fn said_there(alloc: Global, place: Place<'_>, fault: Fault) -> Result<Said, NoM
 }
 
 /// A fault of a statement that was seen.
-fn said_of_seen(
+pub(crate) fn said_of_seen(
     alloc: Global,
     source: Source<'_>,
+    refused: &[u32],
     seen: &Seen,
     fault: Fault,
 ) -> Result<Said, NoMemory>
@@ -83,12 +92,12 @@ fn said_of_seen(
     ensures plain { IfOk result IsPlain }
 {
     let line = line_at(source.text, fault.origin.line as usize);
-    let outer = place_of(source, line, &seen.facts, fault);
+    let outer = place_of(source, line, refused, &seen.facts, fault);
     let expansion = expansion_of(alloc, outer, &seen.text)?;
     if expansion.is_empty() {
         return said_there(alloc, outer, fault);
     }
-    let inner = place_of(source, &seen.text, &seen.facts, fault);
+    let inner = place_of(source, &seen.text, refused, &seen.facts, fault);
     said_inside(alloc, inner, indent(line), expansion, fault)
 }
 
@@ -96,6 +105,7 @@ fn said_of_seen(
 fn one_said(
     alloc: Global,
     source: Source<'_>,
+    refused: &[u32],
     seen: &Statements,
     fault: Fault,
 ) -> Result<Said, NoMemory>
@@ -103,11 +113,11 @@ fn one_said(
     ensures plain { IfOk result IsPlain }
 {
     if let Some(seen) = seen.get(&fault.origin.place) {
-        return said_of_seen(alloc, source, seen, fault);
+        return said_of_seen(alloc, source, refused, seen, fault);
     }
     let facts = Facts::new(alloc);
     let line = line_at(source.text, fault.origin.line as usize);
-    said_there(alloc, place_of(source, line, &facts, fault), fault)
+    said_there(alloc, place_of(source, line, refused, &facts, fault), fault)
 }
 
 /// Faults as they are told.
@@ -121,9 +131,10 @@ pub(crate) fn said_of(
     ensures plain { IfOk result (λ v. All IsPlain v.items) }
 {
     let seen = statements_of(alloc, source, faults)?;
+    let refused = refused_lines(alloc, &seen, faults)?;
     let mut all = Vec::new(alloc);
     for fault in faults {
-        let one = one_said(alloc, source, &seen, *fault)?;
+        let one = one_said(alloc, source, &refused, &seen, *fault)?;
         all.push(one).map_err(|_| NoMemory)?;
     }
     Ok(all)

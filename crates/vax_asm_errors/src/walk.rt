@@ -24,6 +24,17 @@ pub(crate) struct Seen {
     is_refused: bool,
 }
 
+impl Seen {
+    /// A statement with this text of which nothing more is known.
+    pub(crate) fn of(alloc: Global, text: Vec<u8>) -> Seen {
+        Seen {
+            text,
+            facts: Facts::new(alloc),
+            is_refused: false,
+        }
+    }
+}
+
 /// The statements by the places of their lines. Of a line with several the last is kept.
 pub(crate) type Statements = BTreeMap<u32, Seen>;
 
@@ -141,4 +152,21 @@ pub(crate) fn statements_of(
         }
     }
     Ok(all)
+}
+
+/// The numbers of the lines that are refused, of those on which these faults stand.
+pub(crate) fn refused_lines(
+    alloc: Global,
+    all: &Statements,
+    faults: &[Fault],
+) -> Result<Vec<u32>, NoMemory> {
+    let mut lines = Vec::new(alloc);
+    for fault in faults {
+        if let Some(seen) = all.get(&fault.origin.place) {
+            if seen.is_refused {
+                lines.push(fault.origin.line).map_err(|_| NoMemory)?;
+            }
+        }
+    }
+    Ok(lines)
 }

@@ -10,14 +10,14 @@ use Rattle.vax_asm_first.specs.declared.types.Origin.{Origin}
 use Rattle.vax_asm_second.specs.declared.types.Fault.{Fault}
 use Rattle.vax_macro.specs.Fault.{code_of}
 use Rattle.vax_macro.specs.declared.error.FaultKind.{FaultKind}
-use Rattle.vax_macro.specs.declared.error.FaultKind.TheVariants.{Token, UnknownOperator, Count, Form, Undefined, Duplicate, Range, Nesting, Depth, Lines, Large}
+use Rattle.vax_macro.specs.declared.error.FaultKind.TheVariants.{Token, UnknownOperator, Count, Form, Undefined, Duplicate, Range, Nesting, Depth, Lines, Large, Message}
 
 -- ---- kinds
 
 kind_at : ℕ → FaultKind
 kind_at n =
     if n == 1 then Token else (if n == 2 then UnknownOperator else (if n == 3 then Count else (if n == 4 then Form else (if n == 5 then Undefined
-    else (if n == 6 then Duplicate else (if n == 7 then Range else (if n == 8 then Nesting else (if n == 9 then Depth else (if n == 10 then Lines else Large)))))))))
+    else (if n == 6 then Duplicate else (if n == 7 then Range else (if n == 8 then Nesting else (if n == 9 then Depth else (if n == 10 then Lines else (if n == 11 then Large else Message))))))))))
 
 kind_back : (k : FaultKind) → kind_at (code_of k) ≡ k
 unfolding kind_at
@@ -32,6 +32,7 @@ kind_back Nesting = refl
 kind_back Depth = refl
 kind_back Lines = refl
 kind_back Large = refl
+kind_back Message = refl
 
 same_kind : (a b : FaultKind) → code_of a ≡ code_of b → a ≡ b
 same_kind a b e = sym (kind_back a) ∙ ap kind_at e ∙ kind_back b

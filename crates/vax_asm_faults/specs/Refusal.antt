@@ -2,7 +2,6 @@
 use Rattle.std.specs.Prelude.{◌==◌, if◌then◌else◌, nat_lt, List, [], ◌∷◌, Option, Some, None, ℕ}
 use Rattle.vax_asm_faults.specs.Survey.{Survey, survey_of}
 use Rattle.vax_asm_first.specs.Faults.{first_of as lower_kind}
-use Rattle.vax_asm_scope.specs.Scope.{external_names}
 use Rattle.vax_asm_second.specs.Faults.{first_of as least}
 use Rattle.vax_asm_second.specs.Laid.{laid}
 use Rattle.vax_asm_second.specs.Modules.{faults, known_in, module_of}
@@ -56,4 +55,4 @@ abbrev pub module_behind : Survey → Module
 module_behind s =
     let k = known_in s.behind.standing in
     let names = s.behind.standing.scope.names.all in
-    module_of k (laid k 0 s.behind.standing.sections.all) names (external_names names) s.behind.standing.transfer
+    module_of k (laid k 0 s.behind.standing.sections.all) names s.behind.standing.transfer

@@ -1,3 +1,4 @@
+pub mod Putting
 pub mod Saving
 pub mod Seeing
 pub mod Waiting

@@ -3,6 +3,7 @@
 use Rattle.std.specs.Prelude.{ℕ, pos, Bool, true, false, ◌-◌, ◌&&◌, nat_lt, not, if◌then◌else◌, List, [], ◌∷◌, ◌++◌, length, take, Option, Some, None, Result, Ok, Err}
 use Rattle.vax_asm_sections.specs.Layout.{Sections, current_of, at_first}
 use Rattle.vax_asm_sections.specs.declared.types.Refusal.{Refusal}
+use Rattle.vax_asm_sections.specs.declared.types.Refusal.TheVariants.{Absolute as Refused_data, Conflict, NoMemory, TooLong}
 use Rattle.vax_dialect.specs.Differences.{has_places_in_operands}
 use Rattle.vax_dialect.specs.declared.Dialect.{Dialect}
 use Rattle.vax_isa.specs.declared.actions.Narrow.{Narrow}
@@ -41,9 +42,13 @@ pub record Standing : Type 0 where
 abbrev pub at_start : Dialect → Standing
 at_start dialect = record { dialect = dialect; scope = nothing; keeps_block = false; absolute = false; displacement = narrow.L; sections = at_first; saved = []; transfer = None }
 
--- where the next statement stands
+-- where the next statement stands: in an absolute section a number, else a place of the section
+abbrev pub here_by : Option ℕ → (section size : ℕ) → Value
+here_by (Some at) section size = value.Absolute (pos at)
+here_by None section size = value.Section section (pos size)
+
 abbrev pub here_in : {F : Type 0} → Sections F → Value
-here_in s = value.Section s.current (pos (current_of s).size)
+here_in s = here_by (current_of s).absolute s.current (current_of s).size
 
 -- What `.` is worth in an operand or an item: the place of that, where it may stand there, else the place of the statement.
 abbrev pub here_at : Dialect → (statement part : Value) → Value
@@ -106,7 +111,14 @@ without_last s = record s { saved = take (length s.saved - 1) s.saved }
 abbrev pub with_scope : Scope → Standing → Standing
 with_scope scope s = record s { scope = scope }
 
--- the sections after a change; a section or a module that would be too long is a fault
+-- why the sections can't change so
+abbrev pub fault_of : Refusal → FaultKind
+fault_of Refused_data = fault.Form
+fault_of Conflict = fault.Large
+fault_of TooLong = fault.Large
+fault_of NoMemory = fault.Large
+
+-- the sections after a change; data in an absolute section is a fault, and so is a section or a module that would be too long
 abbrev pub with_sections : Standing → Result (Sections Fixup) Refusal → Result Standing FaultKind
 with_sections s (Ok sections) = Ok (record s { sections = sections })
-with_sections s (Err refusal) = Err fault.Large
+with_sections s (Err refusal) = Err (fault_of refusal)

@@ -1,7 +1,7 @@
 // What the statements so far leave.
 
-ghost use Rattle.std.specs.Prelude.{◌≡◌, ◌≤◌, All, IfOk, OnOk, length, option_map};
-ghost use Rattle.vax_asm_sections.specs.Layout.{current_of, put, aligned};
+ghost use Rattle.std.specs.Prelude.{◌≡◌, ◌≤◌, All, IfOk, OnOk, is_some, length, option_map};
+ghost use Rattle.vax_asm_sections.specs.Layout.{current_of, place_in, put, aligned};
 ghost use Rattle.vax_asm_sections.specs.View.{part_of};
 ghost use Rattle.vax_lex.specs.Grammar.{symbols_of};
 ghost use Rattle.vax_lex.specs.Tokens.{IsTokenOf};
@@ -72,6 +72,23 @@ impl Standing {
         self.layout.current().size
     }
 
+    /// Where the next statement goes in that section, which counts alone where it is absolute.
+    #[tactic(auto, using(crate::proofs::Seeing::place_seen))]
+    pub fn place(&self) -> u32
+        ensures value { result ≡ place_in (current_of (standing_of self.now).sections) }
+        ensures few { result ≤ 1048576 }
+    {
+        self.layout.current().place()
+    }
+
+    /// Whether that section is absolute.
+    #[tactic(auto, using(crate::proofs::Seeing::absolute_seen))]
+    pub fn in_absolute(&self) -> bool
+        ensures { result ≡ is_some (current_of (standing_of self.now).sections).absolute }
+    {
+        self.layout.current().absolute.is_some()
+    }
+
     /// The name of that section; empty for the one that has none.
     #[tactic(auto, using(crate::proofs::Seeing::name_seen))]
     pub fn section_name(&self) -> &[u8]
@@ -121,11 +138,15 @@ impl Standing {
         self.saved.pop()
     }
 
-    /// Where the next statement stands, which is what `.` is worth in it.
+    /// Where the next statement stands, which is what `.` is worth in it: a number in an absolute section.
+    #[tactic(auto, using(crate::proofs::Seeing::absolute_seen))]
     pub fn here(&self) -> Result<Value, NoMemory>
         ensures { IfOk result (λ v. v ≡ here_in (standing_of self.now).sections) }
     {
         let section = u32::try_from(self.layout.number()).map_err(|_| NoMemory)?;
+        if let Some(at) = self.layout.current().absolute {
+            return Ok(Value::Absolute(i64::from(at)));
+        }
         Ok(Value::Section {
             section,
             offset: i64::from(self.section_size()),
@@ -162,7 +183,7 @@ impl Standing {
 
     /// Adds so many bytes to the section that the next statement goes into.
     ///
-    /// [`Refused::Fault`] where the section or the module would be too long, and all is as before then;
+    /// [`Refused::Fault`] where an absolute section would hold data, or the section or the module would be too long, and all is as before then;
     /// [`Refused::NoMemory`] where memory is refused.
     #[tactic(auto, using(crate::proofs::Seeing::put_stands, crate::proofs::Seeing::put_fails))]
     pub fn put(&mut self, size: u32, piece: Piece<Fixup>) -> Result<(), Refused>
@@ -172,6 +193,7 @@ impl Standing {
         match self.layout.put(size, piece) {
             Ok(()) => Ok(()),
             Err(Refusal::NoMemory) => Err(Refused::NoMemory),
+            Err(Refusal::Absolute) => Err(Refused::Fault(FaultKind::Form)),
             Err(Refusal::TooLong | Refusal::Conflict) => Err(Refused::Fault(FaultKind::Large)),
         }
     }
@@ -189,6 +211,7 @@ impl Standing {
         match self.layout.align(align) {
             Ok(()) => Ok(()),
             Err(Refusal::NoMemory) => Err(Refused::NoMemory),
+            Err(Refusal::Absolute) => Err(Refused::Fault(FaultKind::Form)),
             Err(Refusal::TooLong | Refusal::Conflict) => Err(Refused::Fault(FaultKind::Large)),
         }
     }

@@ -1,5 +1,5 @@
 -- What the statement of an instruction leaves is read back as the instruction.
-use Rattle.std.proofs.Common.{◌≡◌, ◌<◌, ◌≤◌, ◌+◌, ℕ, suc, Bool, true, false, List, [], ◌∷◌, ◌++◌, length, map, take, Option, Some, None, Ok, Err, refl, sym, ap, ◌∙◌, arith, subst, append_assoc, length-append}
+use Rattle.std.proofs.Common.{◌≡◌, ◌<◌, ◌≤◌, ◌+◌, ℕ, suc, Bool, true, false, List, [], ◌∷◌, ◌++◌, length, map, take, Option, Some, None, Ok, refl, sym, ap, ◌∙◌, arith, subst, append_assoc, length-append}
 use Rattle.std.proofs.Math.Seq.{take-append_seam}
 use Rattle.std.proofs.lemmas.Bool.Decides.{nat_tests}
 use Rattle.std.proofs.lemmas.List.Elements.{All-nil, All-cons}
@@ -12,14 +12,14 @@ use Rattle.vax_lex.specs.declared.token.Token.{Token}
 use Rattle.vax_asm_encode.specs.Operands.{may_stand, takes_branch}
 use Rattle.vax_asm_encode.specs.declared.operand.Operand.{Operand}
 use Rattle.vax_asm_encode.specs.declared.operand.Operand.TheVariants as operand
-use Rattle.vax_asm_sections.specs.Layout.{Part, Bytes, Field as Kept, Section, Sections, current_of, exceeds, longer, put, unnamed, with_part}
+use Rattle.vax_asm_sections.specs.Layout.{Part, Bytes, Field as Kept, Section, Sections, current_of, longer, unnamed, with_part}
 use Rattle.vax_asm_sections.specs.View.{section_of}
-use Rattle.vax_asm_sections.specs.declared.types.Refusal.TheVariants.{TooLong}
 use Rattle.vax_macro.specs.declared.error.FaultKind.{FaultKind}
 use Rattle.vax_asm_first.specs.Faults.{lowest}
 use Rattle.vax_asm_first.specs.Fixups.{Filling, Fixup}
-use Rattle.vax_asm_first.specs.Progress.{Site, Progress, added, after_change, done, done_by, site_of}
-use Rattle.vax_asm_first.specs.Standing.{Standing, with_scope, with_sections}
+use Rattle.vax_asm_first.specs.Progress.{Site, Progress, done, done_by, site_of}
+use Rattle.vax_asm_first.proofs.Putting.{longer_relative, put_made, put_relative}
+use Rattle.vax_asm_first.specs.Standing.{Standing, with_scope}
 use Rattle.vax_asm_first.specs.View.{section_seen, standing_of}
 use Rattle.vax_asm_first.specs.declared.types.Origin.{Origin}
 use Rattle.vax_asm_first.specs.declared.types.Standing as code
@@ -52,19 +52,14 @@ at_stands : (kind : OperandKind) (a : Addressed) (section at : ℕ) → StandsIn
 at_stands kind a section at = branch_or kind (sized a.mode a.index section (at + specifier_length a.index) a.value) (takes_branch kind.letter) refl
 
 -- What has no fault is added.
-put_by : (n : ℕ) (part : Part Fixup) (s : Standing) (b : Bool) → (after_change s (with_sections s (if b then Err TooLong else Ok (with_part n part s.sections)))).fault ≡ None
-    → (after_change s (with_sections s (if b then Err TooLong else Ok (with_part n part s.sections)))).standing.sections ≡ with_part n part s.sections
-put_by n part s true h = cc
-put_by n part s false h = refl
-
-put_made : (n : ℕ) (part : Part Fixup) (s : Standing) → (added n part s).fault ≡ None → (added n part s).standing.sections ≡ with_part n part s.sections
-unfolding put
-put_made n part s h = put_by n part s (exceeds (current_of s.sections).size s.sections.total n) h
-
 fixed_made : (site : Site) (kind : OperandKind) (o : Operand) (filling : Filling) (at : ℕ) (s : Standing) (f : Option FaultKind) → (fixed site kind o filling at s f).fault ≡ None
     → (fixed site kind o filling at s f).standing.sections ≡ with_part (operand_length kind o) (Kept (fixup_at site kind o filling at)) s.sections
-fixed_made site kind o filling at s None h = put_made (operand_length kind o) (Kept (fixup_at site kind o filling at)) s h
+fixed_made site kind o filling at s None h = ap (λ (t : Standing). t.sections) (put_made (operand_length kind o) (Kept (fixup_at site kind o filling at)) s h)
 fixed_made site kind o filling at s (Some k) h = cc
+
+fixed_relative : (site : Site) (kind : OperandKind) (o : Operand) (filling : Filling) (at : ℕ) (s : Standing) (f : Option FaultKind) → (fixed site kind o filling at s f).fault ≡ None → (current_of s.sections).absolute ≡ None
+fixed_relative site kind o filling at s None h = put_relative (operand_length kind o) (Kept (fixup_at site kind o filling at)) s tt h
+fixed_relative site kind o filling at s (Some k) h = absurd cc
 
 -- One operand.
 record Step (site : Site) (kind : OperandKind) (at : ℕ) (s : Standing) (r : Reached) : Type 0 where
@@ -73,6 +68,7 @@ record Step (site : Site) (kind : OperandKind) (at : ℕ) (s : Standing) (r : Re
   stands : may_stand kind operand ≡ true
   next : r.at ≡ at + operand_length kind operand
   sections : r.progress.standing.sections ≡ with_part (operand_length kind operand) (Kept (fixup_at site kind operand filling at)) s.sections
+  relative : (current_of s.sections).absolute ≡ None
 
 placed_step : (site : Site) (kind : OperandKind) (p : Prepared) (at : ℕ) (s : Standing) (o : Option Operand) → StandsIn kind o → (placed site kind p at s o).progress.fault ≡ None → Step site kind at s (placed site kind p at s o)
 placed_step site kind p at s None stands h = absurd cc
@@ -82,6 +78,7 @@ placed_step site kind p at s (Some o) stands h = record {
   stands = stands;
   next = refl;
   sections = fixed_made site kind o p.filling at s (fault_at kind o s.sections.current at p.addressed) h;
+  relative = fixed_relative site kind o p.filling at s (fault_at kind o s.sections.current at p.addressed) h;
 }
 
 step : (site : Site) (kind : OperandKind) (tokens : List Token) (at : ℕ) (s : Standing) → (operand_stated site kind tokens at s).progress.fault ≡ None → Step site kind at s (operand_stated site kind tokens at s)
@@ -93,6 +90,7 @@ step site kind tokens at s h =
       stands = made.stands;
       next = made.next;
       sections = made.sections;
+      relative = made.relative;
     }
 
 -- Where all have no fault, each has none.
@@ -189,7 +187,9 @@ grown site (o ∷ os) (kind ∷ kinds) r are within h =
     let part : Part Fixup = Kept (fixup_at site kind p.operand p.filling r.at) in
     let inside : next.progress.standing.sections.current < length next.progress.standing.sections.all = subst (λ (x : Sections Fixup). x.current < length x.all) (sym p.sections) (within_part n part s.sections within) in
     let more = grown site os kinds next are.1 inside h in
-    let section : current_of next.progress.standing.sections ≡ longer n part (current_of s.sections) = ap current_of p.sections ∙ current_longer n part s.sections within in
+    let x : Section Fixup = current_of s.sections in
+    let section : current_of next.progress.standing.sections ≡ record x { size = x.size + n; parts = x.parts ++ part ∷ [] } =
+    ap current_of p.sections ∙ current_longer n part s.sections within ∙ longer_relative n part x p.relative in
     record {
       operands = part ∷ more.operands;
       current = more.current ∙ ap (λ (x : Sections Fixup). x.current) p.sections;
@@ -220,11 +220,14 @@ left_by : (row : Plain) (site : Site) (os : List (List Token)) (s : Standing) �
 left_by row site os s formed count within h =
     let r : Reached = opcode_stated row s in
     let opcode : Part Fixup = Bytes (row.code ∷ []) in
-    let made : r.progress.standing.sections ≡ with_part 1 opcode s.sections = put_made 1 opcode s (none_before site os row.operands r h) in
+    let stood : r.progress.fault ≡ None = none_before site os row.operands r h in
+    let made : r.progress.standing.sections ≡ with_part 1 opcode s.sections = ap (λ (t : Standing). t.sections) (put_made 1 opcode s stood) in
+    let x : Section Fixup = current_of s.sections in
     let inside : r.progress.standing.sections.current < length r.progress.standing.sections.all = subst (λ (x : Sections Fixup). x.current < length x.all) (sym made) (within_part 1 opcode s.sections within) in
     let are : AreKinds os row.operands = kinds_of os row.operands (omega (arith, formed.count, formed.places, count)) (λ k d less. formed.kinds k d (omega arith)) in
     let more = grown site os row.operands r are inside h in
-    let section : current_of r.progress.standing.sections ≡ longer 1 opcode (current_of s.sections) = ap current_of made ∙ current_longer 1 opcode s.sections within in
+    let section : current_of r.progress.standing.sections ≡ record x { size = x.size + 1; parts = x.parts ++ opcode ∷ [] } =
+    ap current_of made ∙ current_longer 1 opcode s.sections within ∙ longer_relative 1 opcode x (put_relative 1 opcode s tt stood) in
     let size : (current_of r.progress.standing.sections).size ≡ (current_of s.sections).size + 1 = ap (λ (x : Section Fixup). x.size) section in
     let kinds : front os row.operands ≡ take row.count row.operands = front_taken os row.operands ∙ ap (λ (n : ℕ). take n row.operands) count in
     record {

@@ -1,4 +1,5 @@
 pub mod Bytes
 pub mod Placing
 pub mod Stating
+pub mod Typing
 pub mod View

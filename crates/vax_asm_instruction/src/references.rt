@@ -18,7 +18,7 @@ use vax_word::Size;
 
 /// The operand of an instruction that reads so many bytes.
 #[tactic(auto, using(crate::proofs::Referring::read_kind))]
-fn read_of(size: Size) -> OperandKind
+pub(crate) fn read_of(size: Size) -> OperandKind
     ensures value { result ≡ read_of size }
     ensures kind { IsKind result }
 {

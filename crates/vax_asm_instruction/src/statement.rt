@@ -32,9 +32,9 @@ use vax_space::NoMemory;
 
 /// An operand where it stands: how it is addressed, and what its field is filled with.
 #[derive(Drop)]
-struct Prepared {
-    addressed: Addressed,
-    filling: Filling,
+pub(crate) struct Prepared {
+    pub(crate) addressed: Addressed,
+    pub(crate) filling: Filling,
 }
 
 /// The operands so far: where the next one begins, and the fault that counts, if one of them has any.
@@ -52,7 +52,7 @@ fn unless_here(here: bool, value: Result<Value, ExprError>) -> Result<Value, Exp
 }
 
 /// What is known of an operand where it stands, and what comes later.
-fn prepare(
+pub(crate) fn prepare(
     standing: &mut Standing,
     alloc: Global,
     site: Site<'_>,
@@ -102,7 +102,7 @@ fn fault_in(
 }
 
 /// The fault of an operand whose field can't hold its value.
-fn fault_at(
+pub(crate) fn fault_at(
     kind: OperandKind,
     operand: Operand,
     section: u32,
@@ -173,7 +173,11 @@ fn place(
 }
 
 /// The statement, with what `.` is worth in the operand that begins at a place.
-fn site_for<'a>(standing: &Standing, site: Site<'a>, at: u32) -> Result<Site<'a>, NoMemory>
+pub(crate) fn site_for<'a>(
+    standing: &Standing,
+    site: Site<'a>,
+    at: u32,
+) -> Result<Site<'a>, NoMemory>
     ensures site { IfOk result (λ s. site_seen s
         ≡ site_for (standing_of standing.now) at (site_seen site.entry)) }
     ensures line { IfOk result (λ s. s.line.now.value.items

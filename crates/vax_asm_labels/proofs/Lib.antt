@@ -3,6 +3,7 @@ pub mod Attributes
 pub mod Ending
 pub mod Listing
 pub mod Parts
+pub mod Replacing
 pub mod Selecting
 pub mod Spelled
 pub mod Switching

@@ -2,10 +2,11 @@
 -- directives).
 use Rattle.std.specs.Prelude.{ℕ, Bool, not, ◌||◌, if◌then◌else◌, List, [], ◌∷◌, Option, Some, None, Result, Ok, Err, codes}
 use Rattle.vax_asm_data.specs.Data.{unless_none}
-use Rattle.vax_asm_first.specs.Standing.{Standing}
+use Rattle.vax_asm_first.specs.Standing.{Standing, with_scope}
 use Rattle.vax_asm_labels.specs.Naming.{next_block}
+use Rattle.vax_asm_scope.specs.Scope.{assuming}
 use Rattle.vax_asm_labels.specs.declared.switches.Function.{Function}
-use Rattle.vax_asm_labels.specs.declared.switches.Function.TheVariants.{Idle, Always, Absolute, LongBlocks}
+use Rattle.vax_asm_labels.specs.declared.switches.Function.TheVariants.{Idle, Externals, Absolute, LongBlocks}
 use Rattle.vax_asm_statement.specs.Items.{name_alone}
 use Rattle.vax_asm_statement.specs.Parts.{parts}
 use Rattle.vax_lex.specs.Characters.{spells}
@@ -27,7 +28,7 @@ is_idle name =
 abbrev pub function_of : List ℕ → Option Function
 function_of name =
     if is_called (codes "LOCAL_BLOCK") (codes "LSB") name then Some LongBlocks
-    else (if is_called (codes "GLOBAL") (codes "GBL") name then Some Always
+    else (if is_called (codes "GLOBAL") (codes "GBL") name then Some Externals
     else (if is_called (codes "ABSOLUTE") (codes "AMA") name then Some Absolute
     else (if is_idle name then Some Idle
     else None)))
@@ -40,12 +41,12 @@ function_by line None = None
 abbrev pub function_at : List ℕ → List Token → Option Function
 function_at line tokens = function_by line (name_alone line tokens)
 
--- A function is enabled, or disabled. That block of local labels which is enabled begins there, and goes on up to the label or section
+-- A function is enabled, or disabled. Names that appear while `GLOBAL` is disabled are no other module's, unless the source says so. That block of local labels which is enabled begins there, and goes on up to the label or section
 -- behind its end.
 abbrev pub switched : Bool → Option Function → Standing → Result Standing FaultKind
 switched on None s = Err fault.Form
 switched on (Some Idle) s = Ok s
-switched on (Some Always) s = if on then Ok s else Err fault.Form
+switched on (Some Externals) s = Ok (with_scope (assuming on s.scope) s)
 switched on (Some Absolute) s = Ok (record s { absolute = on })
 switched on (Some LongBlocks) s = Ok (record s { scope = next_block (not on) s.scope; keeps_block = on })
 

@@ -2,5 +2,6 @@ pub mod Contexts
 pub mod Defaults
 pub mod Functions
 pub mod Naming
+pub mod Numbers
 pub mod View
 pub mod Within

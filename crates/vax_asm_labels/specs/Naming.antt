@@ -1,10 +1,10 @@
 -- The statements that define names, choose sections and say where a program begins (VAX MACRO and Instruction Set Reference
 -- Manual, "Label field", "Direct assignment statement", `.PSECT`, `.ENTRY`, `.GLOBAL`, `.EXTERNAL` and `.END`).
-use Rattle.std.specs.Prelude.{ℕ, ℤ, pos, negsuc, Bool, true, false, ◌&&◌, ◌||◌, ◌==◌, nat_le, not, if◌then◌else◌, List, [], ◌∷◌, ◌++◌, Option, Some, None, Result, Ok, Err, codes}
+use Rattle.std.specs.Prelude.{ℕ, ℤ, pos, negsuc, Bool, true, false, ◌&&◌, ◌||◌, ◌==◌, nat_le, not, if◌then◌else◌, List, [], ◌∷◌, ◌++◌, Option, Some, None, Result, Ok, Err, codes, is_some}
 use Rattle.std.specs.Str.{bytes_eq}
 use Rattle.vax_asm_encode.specs.declared.operand.DataKind.TheVariants.{Number}
 use Rattle.vax_asm_data.specs.Data.{forward, item_stated, unless_none}
-use Rattle.vax_asm_sections.specs.Layout.{Sections, selected}
+use Rattle.vax_asm_sections.specs.Layout.{Sections, current_of, selected}
 use Rattle.vax_asm_sections.specs.declared.types.Attributes.{Attributes}
 use Rattle.vax_asm_sections.specs.declared.types.Refusal.{Refusal}
 use Rattle.vax_dialect.specs.Differences.{assigns_places, has_further_directives, has_unnamed_psect}
@@ -22,16 +22,18 @@ use Rattle.vax_lex.specs.declared.value.ExprError.TheVariants as errors
 use Rattle.vax_macro.specs.declared.error.FaultKind.{FaultKind}
 use Rattle.vax_macro.specs.declared.error.FaultKind.TheVariants as fault
 use Rattle.vax_asm_names.specs.declared.types.Duplicate.{Duplicate}
+use Rattle.vax_asm_names.specs.declared.types.Linkage.{Linkage}
+use Rattle.vax_asm_names.specs.declared.types.Linkage.TheVariants as links
 use Rattle.vax_asm_first.specs.Fixups.{Assignment, Fixup}
 use Rattle.vax_asm_first.specs.Progress.{Site, site_of, Progress, after_change, joined, done}
 use Rattle.vax_asm_first.specs.Standing.{Standing, Told, told, here_in, with_scope}
 use Rattle.vax_asm_first.specs.declared.types.Origin.{Origin}
-use Rattle.vax_asm_scope.specs.Scope.{Scope, entry, definition_at, definition_of, is_local, labelled, labelled_locally, assigned, begun_block, made_global}
+use Rattle.vax_asm_scope.specs.Scope.{Scope, Entry, entry, definition_at, definition_of, is_local, labelled, labelled_locally, assigned, begun_block, linked, misses}
 use Rattle.vax_asm_statement.specs.Directives.{attribute_of}
 use Rattle.vax_asm_statement.specs.Items.{name_alone, whole}
 use Rattle.vax_asm_statement.specs.Parts.{parts}
 use Rattle.vax_asm_statement.specs.declared.directives.Attribute.{Attribute}
-use Rattle.vax_asm_statement.specs.declared.directives.Attribute.TheVariants.{Align, Write, Ignored}
+use Rattle.vax_asm_statement.specs.declared.directives.Attribute.TheVariants.{Absolute, Align, Write, Ignored}
 use Rattle.vax_asm_statement.specs.declared.reading.Label.{Label}
 use Rattle.vax_asm_values.specs.Values.{Written}
 use Rattle.vax_word.specs.declared.Size.TheVariants as size
@@ -62,7 +64,7 @@ defined s (Err e) = Err fault.Duplicate
 
 -- a name that other modules may use, if it is said to be one
 abbrev pub shared : Bool → List ℕ → Scope → Scope
-shared true name s = made_global name s
+shared true name s = linked links.Global name s
 shared false name s = s
 
 -- a block of local labels begins, unless the one before goes on
@@ -133,18 +135,18 @@ name_assigned site global name tokens s =
       waiting = waiting_by site.origin name t r;
     }
 
--- The place that `.` is assigned: one of the current section.
+-- The place that `.` is assigned: one of the current section, which is a number where that is absolute.
 abbrev pub offset_of : ℤ → Result ℕ FaultKind
 offset_of (pos n) = Ok n
 offset_of (negsuc n) = Err fault.Range
 
-abbrev pub target : (current : ℕ) → Result Value ExprError → Result ℕ FaultKind
-target current (Ok (value.Section i offset)) = if i == current then offset_of offset else Err fault.Form
-target current (Ok (value.Absolute n)) = Err fault.Form
-target current (Ok (value.External i n)) = Err fault.Form
-target current (Err errors.Form) = Err fault.Form
-target current (Err errors.Unknown) = Err fault.Undefined
-target current (Err errors.Range) = Err fault.Range
+abbrev pub target : (absolute : Bool) → (current : ℕ) → Result Value ExprError → Result ℕ FaultKind
+target absolute current (Ok (value.Section i offset)) = if i == current then offset_of offset else Err fault.Form
+target absolute current (Ok (value.Absolute n)) = if absolute then offset_of n else Err fault.Form
+target absolute current (Ok (value.External i n)) = Err fault.Form
+target absolute current (Err errors.Form) = Err fault.Form
+target absolute current (Err errors.Unknown) = Err fault.Undefined
+target absolute current (Err errors.Range) = Err fault.Range
 
 abbrev pub moved_to : Result ℕ FaultKind → Standing → Result Standing FaultKind
 moved_to (Ok n) s = forward n s
@@ -153,7 +155,7 @@ moved_to (Err kind) s = Err kind
 abbrev pub place_moved : Site → List Token → Standing → Result Standing FaultKind
 place_moved site tokens s =
     let t = told site.dialect site.here (symbols_of site.line tokens) s.scope in
-    moved_to (target s.sections.current t.value) (with_scope t.scope s)
+    moved_to (target (is_some (current_of s.sections).absolute) s.sections.current t.value) (with_scope t.scope s)
 
 -- `. = e`, where the dialect has that
 abbrev pub place_assigned : Bool → Site → List Token → Standing → Result Standing FaultKind
@@ -190,9 +192,14 @@ abbrev pub with_write : Bool → Attributes → Option Bool → Option Attribute
 with_write w a (Some before) = if same w before then Some a else None
 with_write w a None = Some (record a { write = Some w })
 
+abbrev pub with_absolute : Bool → Attributes → Option Bool → Option Attributes
+with_absolute b a (Some before) = if same b before then Some a else None
+with_absolute b a None = Some (record a { absolute = Some b })
+
 abbrev pub with_attribute : Option Attribute → Option Attributes → Option Attributes
 with_attribute (Some (Align k)) (Some a) = with_align k a a.align
 with_attribute (Some (Write w)) (Some a) = with_write w a a.write
+with_attribute (Some (Absolute b)) (Some a) = with_absolute b a a.absolute
 with_attribute (Some Ignored) (Some a) = Some a
 with_attribute (Some x) None = None
 with_attribute None found = None
@@ -201,7 +208,8 @@ abbrev pub attribute_by : List ℕ → Option Token → Option Attribute
 attribute_by line (Some t) = attribute_of (token_text line t)
 attribute_by line None = None
 
--- Attributes where the dialect has further directives: a power of two from 0 to 9, and what says that a section isn't read, or is one of vectors.
+-- Attributes where the dialect has further directives: a power of two from 0 to 9, what says that a section is absolute, and what says that it isn't read, or is
+-- one of vectors.
 abbrev pub power_of_two : TokenKind → Option Attribute
 power_of_two (kinds.Number n) = if nat_le n 9 then Some (Align n) else None
 power_of_two kinds.Name = None
@@ -213,7 +221,9 @@ power_alone (t ∷ []) = power_of_two t.kind
 power_alone tokens = None
 
 abbrev pub further_word : List ℕ → Option Token → Option Attribute
-further_word line (Some t) = if spells (codes "NORD") (token_text line t) || spells (codes "VEC") (token_text line t) then Some Ignored else None
+further_word line (Some t) =
+    if spells (codes "ABS") (token_text line t) then Some (Absolute true)
+    else (if spells (codes "NORD") (token_text line t) || spells (codes "VEC") (token_text line t) then Some Ignored else None)
 further_word line None = None
 
 abbrev pub either_attribute : Option Attribute → Option Attribute → Option Attribute
@@ -233,7 +243,7 @@ attributes_from dialect line [] found = found
 attributes_from dialect line (part ∷ parts) found = attributes_from dialect line parts (with_attribute (attribute_at dialect line part) found)
 
 abbrev pub nothing_said : Attributes
-nothing_said = record { align = None; write = None }
+nothing_said = record { align = None; write = None; absolute = None }
 
 -- a section is chosen; a block of local labels begins
 abbrev pub chosen : Standing → Result (Sections Fixup) Refusal → Result Standing FaultKind
@@ -276,33 +286,32 @@ unfoldable pub entry_stated : Origin → List ℕ → List Token → Standing �
 entry_stated origin line tokens s =
     two_alone (parts tokens) (λ name mask. entry_named (site_of origin line s) (name_of line name) mask s)
 
--- names that appear, for other modules or from them
-abbrev pub appears : Bool → List ℕ → Scope → Scope
-appears true name s = made_global name s
-appears false name s = (entry name s).scope
+-- names for other modules, or from them
+abbrev pub with_name : Linkage → Option (List ℕ) → Option Scope → Option Scope
+with_name linkage (Some name) (Some s) = Some (linked linkage name s)
+with_name linkage (Some name) None = None
+with_name linkage None found = None
 
-abbrev pub with_name : Bool → Option (List ℕ) → Option Scope → Option Scope
-with_name global (Some name) (Some s) = Some (appears global name s)
-with_name global (Some name) None = None
-with_name global None found = None
-
-abbrev pub names_from : Bool → List ℕ → List (List Token) → Option Scope → Option Scope
-names_from global line [] found = found
-names_from global line (part ∷ parts) found = names_from global line parts (with_name global (name_of line part) found)
+abbrev pub names_from : Linkage → List ℕ → List (List Token) → Option Scope → Option Scope
+names_from linkage line [] found = found
+names_from linkage line (part ∷ parts) found = names_from linkage line parts (with_name linkage (name_of line part) found)
 
 abbrev pub named : Standing → Option Scope → Result Standing FaultKind
 named s (Some scope) = Ok (with_scope scope s)
 named s None = Err fault.Form
 
 -- `.GLOBAL` and `.EXTERNAL`
-unfoldable pub names_stated : Bool → List ℕ → List Token → Standing → Result Standing FaultKind
-names_stated global line tokens s = unless_none tokens (named s (names_from global line (parts tokens) (Some s.scope)))
+unfoldable pub names_stated : Linkage → List ℕ → List Token → Standing → Result Standing FaultKind
+names_stated linkage line tokens s = unless_none tokens (named s (names_from linkage line (parts tokens) (Some s.scope)))
 
--- `.END`, with the name at which the program begins
+-- `.END`, with the name at which the program begins. Behind it nothing is read, so the name has its definition by then, if this module
+-- defines it.
+abbrev pub begins_with : Bool → List ℕ → Entry → Standing → Result Standing FaultKind
+begins_with true name e s = Err fault.Undefined
+begins_with false name e s = Ok (record s { scope = e.scope; transfer = Some (record { name = name; definition = definition_at e }) })
+
 abbrev pub begins_at : Option (List ℕ) → Standing → Result Standing FaultKind
-begins_at (Some name) s =
-    let e = entry name s.scope in
-    Ok (record s { scope = e.scope; transfer = Some (record { name = name; definition = definition_at e }) })
+begins_at (Some name) s = let e = entry name s.scope in begins_with (misses name e.scope) name e s
 begins_at None s = Err fault.Form
 
 abbrev pub end_by : List ℕ → List (List Token) → Standing → Result Standing FaultKind

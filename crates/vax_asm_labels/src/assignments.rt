@@ -2,7 +2,7 @@
 
 ghost use Rattle.std.specs.Prelude.{◌≡◌, ◌&&◌, All, IfOk, OnOk, length, map, not, option_map, true};
 ghost use Rattle.vax_lex.specs.Tokens.{IsTokenOf};
-ghost use Rattle.vax_asm_labels.specs.Naming.{assigned_by, assignment_stated, fault_of, name_assigned, named_assignment, place_assigned, place_moved, target, waiting, waiting_as, waiting_by, with_waiting};
+ghost use Rattle.vax_asm_labels.specs.Naming.{assigned_by, assignment_stated, fault_of, name_assigned, named_assignment, offset_of, place_assigned, place_moved, target, waiting, waiting_as, waiting_by, with_waiting};
 ghost use Rattle.vax_asm_labels.specs.View.{Leaves};
 ghost use Rattle.vax_asm_first.specs.Progress.{done_by};
 ghost use Rattle.vax_asm_first.specs.View.{assignment_of, site_seen, standing_of, told_of, Stands, States};
@@ -148,19 +148,32 @@ fn assign(
     }
 }
 
-/// The place that `.` is assigned, which is one of the current section.
-fn target(current: usize, value: Result<Value, ExprError>) -> Result<u64, FaultKind>
-    ensures { result ≡ target current value }
+fn offset_of(offset: i64) -> Result<u64, FaultKind>
+    ensures { result ≡ offset_of offset }
+{
+    u64::try_from(offset).map_err(|_| FaultKind::Range)
+}
+
+/// The place that `.` is assigned, which is one of the current section: a number where that is absolute.
+fn target(absolute: bool, current: usize, value: Result<Value, ExprError>) -> Result<u64, FaultKind>
+    ensures { result ≡ target absolute current value }
 {
     match value {
         Ok(Value::Section { section, offset }) => {
             if section as usize == current {
-                u64::try_from(offset).map_err(|_| FaultKind::Range)
+                offset_of(offset)
             } else {
                 Err(FaultKind::Form)
             }
         }
-        Ok(_) => Err(FaultKind::Form),
+        Ok(Value::Absolute(offset)) => {
+            if absolute {
+                offset_of(offset)
+            } else {
+                Err(FaultKind::Form)
+            }
+        }
+        Ok(Value::External { .. }) => Err(FaultKind::Form),
         Err(ExprError::Form) => Err(FaultKind::Form),
         Err(ExprError::Unknown) => Err(FaultKind::Undefined),
         Err(ExprError::Range) => Err(FaultKind::Range),
@@ -181,7 +194,7 @@ fn move_place(
     let Ok(told) = standing.tell(alloc, site.dialect, site.line, tokens, site.here) else {
         return Err(Refused::NoMemory);
     };
-    match target(standing.layout.number(), told.value) {
+    match target(standing.in_absolute(), standing.layout.number(), told.value) {
         Ok(to) => forward(standing, to),
         Err(kind) => Err(Refused::Fault(kind)),
     }

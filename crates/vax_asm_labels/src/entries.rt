@@ -1,9 +1,9 @@
 // Names that other modules use or have, and where a program begins.
 
-ghost use Rattle.std.specs.Prelude.{◌≡◌, ◌<◌, ◌^◌, All, IfOk, None, OnOk, Some, if◌then◌else◌, length, option_map, true};
+ghost use Rattle.std.specs.Prelude.{◌≡◌, ◌<◌, ◌^◌, All, IfOk, None, Some, if◌then◌else◌, length, option_map, true};
 ghost use Rattle.vax_lex.specs.KeptNames.{kept_name};
 ghost use Rattle.vax_lex.specs.Tokens.{IsTokenOf};
-ghost use Rattle.vax_asm_labels.specs.Naming.{appears, begins_at, end_stated, entry_named, entry_stated, names_from, names_stated, symbol_stated};
+ghost use Rattle.vax_asm_labels.specs.Naming.{begins_at, end_stated, entry_named, entry_stated, names_from, names_stated, symbol_stated};
 ghost use Rattle.vax_asm_first.specs.Progress.{after_change, done_by};
 ghost use Rattle.vax_asm_first.specs.View.{progress_of, site_seen, standing_of, States};
 ghost use Rattle.vax_asm_scope.specs.Kept.{scope_of};
@@ -16,7 +16,7 @@ use std::rc::Rc;
 use vax_asm_data::item;
 use vax_asm_encode::DataKind;
 use vax_asm_first::{FaultKind, Origin, Refused, Site, Standing, Transfer, lowest, site_of};
-use vax_asm_scope::Scope;
+use vax_asm_scope::{Linkage, Scope};
 use vax_asm_statement::parts;
 use vax_lex::{CanonicalName, Token};
 use vax_space::NoMemory;
@@ -108,46 +108,34 @@ pub fn entry(
     enter(standing, alloc, site, name_of(line, name), mask)
 }
 
-/// A name appears, which other modules may use or have.
-fn appear(scope: &mut Scope, alloc: Global, global: bool, name: &[u8]) -> Result<(), NoMemory>
-    ensures { OnOk result (scope_of scope.new ≡ appears global name.now (scope_of scope.old)) }
-{
-    if global {
-        scope.make_global(alloc, name)?;
-    } else {
-        scope.appear(alloc, name)?;
-    }
-    Ok(())
-}
-
-/// The names that operands are appear. Whether each is a name.
+/// The names that operands are appear, for other modules or from them. Whether each is a name.
 #[tactic(auto, using(crate::proofs::Listing::name_step))]
 fn appear_all(
     scope: &mut Scope,
     alloc: Global,
-    global: bool,
+    linkage: Linkage,
     line: &[u8],
     operands: &[Token],
 ) -> Result<bool, NoMemory>
     requires tokens { All (IsTokenOf line.now) operands.now }
     requires few { length operands.now < 2 ^ 32 }
     ensures { IfOk result (λ all. (if all then Some (scope_of scope.new) else None)
-        ≡ names_from global line.now (parts operands.now) (Some (scope_of scope.old))) }
+        ≡ names_from linkage line.now (parts operands.now) (Some (scope_of scope.old))) }
 {
     let Ok(list) = parts(alloc, operands) else {
         return Err(NoMemory);
     };
     for part in &list {
         match name_of(line, part) {
-            Some(name) => appear(scope, alloc, global, name.as_bytes())?,
+            Some(name) => scope.link(alloc, name.as_bytes(), linkage)?,
             None => return Ok(false),
         }
     }
     Ok(true)
 }
 
-/// `.GLOBAL`, where `global` is true: other modules may use these names; and `.EXTERNAL`: other modules have those of them
-/// that nothing here defines.
+/// `.GLOBAL`: other modules may use these names, or have those of them that nothing here defines; `.WEAK`: the same, and where
+/// none has one, that is 0; and `.EXTERNAL`: other modules have those of them that nothing here defines.
 ///
 /// [`Refused::Fault`]: `Count` where there are no names, `Form` where an operand is no name. [`Refused::NoMemory`] where
 /// memory is refused. Nothing of use is left then.
@@ -156,17 +144,17 @@ pub fn names(
     standing: &mut Standing,
     alloc: Global,
     line: &[u8],
-    global: bool,
+    linkage: Linkage,
     operands: &[Token],
 ) -> Result<(), Refused>
     requires tokens { All (IsTokenOf line.now) operands.now }
     requires few { length operands.now < 2 ^ 32 }
-    ensures { States (names_stated global line.now operands.now) result standing.old standing.new }
+    ensures { States (names_stated linkage line.now operands.now) result standing.old standing.new }
 {
     if operands.is_empty() {
         return Err(Refused::Fault(FaultKind::Count));
     }
-    match appear_all(&mut standing.scope, alloc, global, line, operands) {
+    match appear_all(&mut standing.scope, alloc, linkage, line, operands) {
         Ok(true) => Ok(()),
         Ok(false) => Err(Refused::Fault(FaultKind::Form)),
         Err(NoMemory) => Err(Refused::NoMemory),
@@ -187,6 +175,9 @@ fn begin_at(
     let Ok(definition) = standing.scope.appear(alloc, name.as_bytes()) else {
         return Err(Refused::NoMemory);
     };
+    if standing.scope.misses(name.as_bytes()) {
+        return Err(Refused::Fault(FaultKind::Undefined));
+    }
     let Ok(name) = name.as_bytes().to_vec(alloc) else {
         return Err(Refused::NoMemory);
     };
@@ -196,8 +187,8 @@ fn begin_at(
 
 /// `.END`, and `.END name` with the name at which the program begins.
 ///
-/// [`Refused::Fault`]: `Count` where there are two operands or more, `Form` where the one is no name.
-/// [`Refused::NoMemory`] where memory is refused. Nothing of use is left then.
+/// [`Refused::Fault`]: `Count` where there are two operands or more, `Form` where the one is no name, `Undefined` where neither
+/// this module nor another one may define it. [`Refused::NoMemory`] where memory is refused. Nothing of use is left then.
 #[tactic(auto, unfolding(crate::specs::Naming::end_stated))]
 pub fn end(
     standing: &mut Standing,

@@ -10,7 +10,7 @@ ghost use Rattle.vax_asm_statement.specs.Tokens.{is_name_token};
 use crate::operands::{is_place, kept};
 use std::alloc::Global;
 use vax_asm_first::{FaultKind, Refused, Standing};
-use vax_asm_scope::{LabelError, Scope};
+use vax_asm_scope::{LabelError, Linkage, Scope};
 use vax_asm_statement::{Label, is_local};
 use vax_space::NoMemory;
 
@@ -24,7 +24,7 @@ pub(crate) fn share(
     ensures { OnOk result (scope_of scope.new ≡ shared global name.now (scope_of scope.old)) }
 {
     if global {
-        scope.make_global(alloc, name)?;
+        scope.link(alloc, name, Linkage::Global)?;
     }
     Ok(())
 }

@@ -3,7 +3,7 @@
 ghost use Rattle.std.specs.Prelude.{◌≡◌, ◌<◌, ◌^◌, All, IfSome, Some, length, map, option_map};
 ghost use Rattle.vax_lex.specs.KeptNames.{kept_name};
 ghost use Rattle.vax_lex.specs.Tokens.{IsTokenOf};
-ghost use Rattle.vax_asm_labels.specs.Naming.{attribute_at, attribute_by, attributes_from, further_attribute, further_word, nothing_said, power_alone, section_chosen, section_stated, unnamed_chosen, with_align, with_attribute, with_write};
+ghost use Rattle.vax_asm_labels.specs.Naming.{attribute_at, attribute_by, attributes_from, further_attribute, further_word, nothing_said, power_alone, section_chosen, section_stated, unnamed_chosen, with_absolute, with_align, with_attribute, with_write};
 ghost use Rattle.vax_asm_labels.specs.Within.{Within};
 ghost use Rattle.vax_asm_first.specs.View.{States};
 ghost use Rattle.vax_dialect.specs.Differences.{has_further_directives, has_unnamed_psect};
@@ -25,6 +25,7 @@ use vax_lex::{CanonicalName, Token, TokenKind, spells};
 pub(crate) const NOTHING_SAID: Attributes = Attributes {
     align: None,
     write: None,
+    absolute: None,
 };
 
 /// The attribute with this name.
@@ -60,14 +61,16 @@ fn power_alone(tokens: &[Token]) -> Option<Attribute>
     }
 }
 
-/// `NORD` or `VEC`.
+/// `ABS`, `NORD` or `VEC`.
 fn further_word(line: &[u8], tokens: &[Token]) -> Option<Attribute>
     requires { All (IsTokenOf line.now) tokens.now }
     ensures { result ≡ further_word line.now (name_alone line.now tokens.now) }
 {
     let token = name_alone(line, tokens)?;
     let name = text_of(line, token);
-    if spells(b"NORD", name) || spells(b"VEC", name) {
+    if spells(b"ABS", name) {
+        Some(Attribute::Absolute(true))
+    } else if spells(b"NORD", name) || spells(b"VEC", name) {
         Some(Attribute::Ignored)
     } else {
         None
@@ -109,6 +112,7 @@ fn with_align(align: u8, said: Attributes) -> Option<Attributes>
         None => Some(Attributes {
             align: Some(align),
             write: said.write,
+            absolute: said.absolute,
         }),
     }
 }
@@ -122,6 +126,21 @@ fn with_write(write: bool, said: Attributes) -> Option<Attributes>
         None => Some(Attributes {
             align: said.align,
             write: Some(write),
+            absolute: said.absolute,
+        }),
+    }
+}
+
+fn with_absolute(absolute: bool, said: Attributes) -> Option<Attributes>
+    ensures { result ≡ with_absolute absolute said said.absolute }
+{
+    match said.absolute {
+        Some(before) if before != absolute => None,
+        Some(_) => Some(said),
+        None => Some(Attributes {
+            align: said.align,
+            write: said.write,
+            absolute: Some(absolute),
         }),
     }
 }
@@ -135,6 +154,7 @@ fn with_attribute(attribute: Option<Attribute>, said: Option<Attributes>) -> Opt
     match attribute {
         Attribute::Align(align) => with_align(align, said),
         Attribute::Write(write) => with_write(write, said),
+        Attribute::Absolute(absolute) => with_absolute(absolute, said),
         Attribute::Ignored => Some(said),
     }
 }
@@ -168,7 +188,9 @@ pub(crate) fn choose_named(
     match standing.layout.select(alloc, name, attributes) {
         Ok(()) => {}
         Err(Refusal::NoMemory) => return Err(Refused::NoMemory),
-        Err(Refusal::Conflict | Refusal::TooLong) => return Err(Refused::Fault(FaultKind::Form)),
+        Err(Refusal::Absolute | Refusal::Conflict | Refusal::TooLong) => {
+            return Err(Refused::Fault(FaultKind::Form));
+        }
     }
     let Ok(()) = next_block(&mut standing.scope, alloc, standing.keeps_block) else {
         return Err(Refused::NoMemory);

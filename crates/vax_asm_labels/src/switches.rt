@@ -16,8 +16,8 @@ use vax_lex::{Token, spells};
 pub enum Function {
     /// `DEBUG`, `SUPPRESSION`, `TRACEBACK`, `TRUNCATION`: nothing, whether it is enabled or not.
     Idle,
-    /// `GLOBAL`: it can't be disabled.
-    Always,
+    /// `GLOBAL`: another module may define names that appear from here on.
+    Externals,
     /// `ABSOLUTE`: an operand that is an expression alone is absolute.
     Absolute,
     /// `LOCAL_BLOCK`: a block of local labels goes on past labels and sections.
@@ -47,7 +47,7 @@ fn function_of(name: &[u8]) -> Option<Function>
     if is_called(b"LOCAL_BLOCK", b"LSB", name) {
         Some(Function::LongBlocks)
     } else if is_called(b"GLOBAL", b"GBL", name) {
-        Some(Function::Always)
+        Some(Function::Externals)
     } else if is_called(b"ABSOLUTE", b"AMA", name) {
         Some(Function::Absolute)
     } else if is_idle(name) {
@@ -77,7 +77,10 @@ fn switch(
 {
     match function {
         Some(Function::Idle) => Ok(()),
-        Some(Function::Always) if on => Ok(()),
+        Some(Function::Externals) => {
+            standing.scope.assume_external(alloc, on);
+            Ok(())
+        }
         Some(Function::Absolute) => {
             standing.absolute = on;
             Ok(())
@@ -89,14 +92,14 @@ fn switch(
             standing.keeps_block = on;
             Ok(())
         }
-        _ => Err(Refused::Fault(FaultKind::Form)),
+        None => Err(Refused::Fault(FaultKind::Form)),
     }
 }
 
 /// `.ENABLE`, where `on` is true, and `.DISABLE`: functions of the assembler.
 ///
-/// [`Refused::Fault`]: `Count` where there are no operands, `Form` where one is no function's name, or a function that can't be
-/// enabled or disabled. [`Refused::NoMemory`] where memory is refused. Nothing of use is left then.
+/// [`Refused::Fault`]: `Count` where there are no operands, `Form` where one is no function's name.
+/// [`Refused::NoMemory`] where memory is refused. Nothing of use is left then.
 #[tactic(auto, using(crate::proofs::Switching::one_switched, crate::proofs::Switching::fault_switched), unfolding(crate::specs::Functions::functions_stated))]
 pub fn functions(
     standing: &mut Standing,

@@ -5,10 +5,10 @@ use Rattle.std.proofs.lemmas.List.{append-nil, get_or_append_left, get_or-set_ot
 use Rattle.std.proofs.lemmas.List.Elements.{All-append, All-cons, All-nil, All-set}
 use Rattle.std.specs.Prelude.{◌==◌, ◌≢◌, ◌^◌, if◌then◌else◌, slice_index_or, slice_set}
 use Rattle.std.specs.Str.{bytes_eq}
-use Rattle.vax_asm_sections.specs.Layout.{Part, Zeros, Section, Sections, aligned, begun, conflicts, current_of, exceeds, gap, longer, made, numbered, put, raise, raised, selected, unnamed, with_part, with_raised}
+use Rattle.vax_asm_sections.specs.Layout.{Part, Zeros, Section, Sections, aligned, begun, conflicts, current_of, exceeds, gap, longer, longer_by, made, numbered, place_in, put, raise, refuses, raised, selected, unnamed, with_part, with_raised}
 use Rattle.vax_asm_sections.specs.declared.types.Attributes.{Attributes}
 use Rattle.vax_asm_sections.specs.declared.types.Refusal.{Refusal}
-use Rattle.vax_asm_sections.specs.declared.types.Refusal.TheVariants.{Conflict, TooLong}
+use Rattle.vax_asm_sections.specs.declared.types.Refusal.TheVariants.{Absolute, Conflict, TooLong}
 use Rattle.vax_asm_first.specs.Fixups.{Fixup}
 use Rattle.vax_asm_laws.specs.Counted.{AreCounted, Begins, BeginsAt, IsCounted, Keeps, StandFrom, end_of, part_length, section_at}
 use Rattle.vax_asm_laws.specs.Lying.{AllStand, MayAllStand, MayStand}
@@ -47,11 +47,21 @@ stand_behind : (at : ℕ) (parts : List (Part Fixup)) (p : Part Fixup) → Stand
 stand_behind at [] p h b = (b, tt)
 stand_behind at (q ∷ parts) p h b = (h.0, stand_behind (at + part_length q) parts p h.1 b)
 
-longer_counted : (n : ℕ) (p : Part Fixup) (s : Section Fixup) → IsCounted s → part_length p ≡ n → BeginsAt s.size p → IsCounted (longer n p s)
-longer_counted n p s h e b = record {
+-- a section that counts more has what it had; another one has the part behind its own
+longer_counted : (n : ℕ) (p : Part Fixup) (s : Section Fixup) (o : Option ℕ) → IsCounted s → part_length p ≡ n → BeginsAt s.size p → IsCounted (longer_by o n p s)
+longer_counted n p s (Some at) h e b = record { stand = h.stand; size = h.size }
+longer_counted n p s None h e b = record {
   stand = stand_behind 0 s.parts p h.stand (subst (λ (at : ℕ). BeginsAt at p) (sym h.size) b);
   size = end_behind 0 s.parts p ∙ ap (λ (k : ℕ). k + part_length p) h.size ∙ ap (λ (k : ℕ). s.size + k) e;
 }
+
+longer_begins : (n : ℕ) (p : Part Fixup) (s : Section Fixup) (o : Option ℕ) → Begins s (longer_by o n p s)
+longer_begins n p s (Some at) = ([], sym (append-nil s.parts))
+longer_begins n p s None = (p ∷ [], refl)
+
+longer_stands : (n : ℕ) (p : Part Fixup) (s : Section Fixup) (o : Option ℕ) → MayStand p → AllStand s → AllStand (longer_by o n p s)
+longer_stands n p s (Some at) may all = all
+longer_stands n p s None may all = All-append MayStand s.parts (p ∷ []) all (All-cons MayStand p [] may (All-nil MayStand))
 
 -- one section of many is another one
 set_begins : (s : Sections Fixup) (x : Section Fixup) (i : ℕ) (b : Bool) → (i == s.current) ≡ b → s.current < length s.all → Begins (current_of s) x → Begins (section_at i s) (slice_index_or (slice_set s.all s.current x) i unnamed)
@@ -81,16 +91,19 @@ current_counted s h = h.sections s.current unnamed h.current
 
 pub part_step : (n : ℕ) (p : Part Fixup) (s : Sections Fixup) → AreCounted s → part_length p ≡ n → BeginsAt (current_of s).size p → MayStand p → Step s (with_part n p s)
 part_step n p s h e b may =
-    set_step s (longer n p (current_of s)) (s.total + n) h (longer_counted n p (current_of s) (current_counted s h) e b) (p ∷ [], refl)
-    (λ all. All-append MayStand (current_of s).parts (p ∷ []) all (All-cons MayStand p [] may (All-nil MayStand)))
+    let x : Section Fixup = current_of s in
+    set_step s (longer n p x) (s.total + n) h (longer_counted n p x x.absolute (current_counted s h) e b) (longer_begins n p x x.absolute)
+    (λ all. longer_stands n p x x.absolute may all)
 
-either_step : (n : ℕ) (p : Part Fixup) (s t : Sections Fixup) (b : Bool) → Step s (with_part n p s) → (let r : Result (Sections Fixup) Refusal = if b then Err TooLong else Ok (with_part n p s) in r) ≡ Ok t → Step s t
-either_step n p s t true h e = cc
-either_step n p s t false h e = let same : with_part n p s ≡ t = cc in subst (λ (x : Sections Fixup). Step s x) same h
+either_step : (n : ℕ) (p : Part Fixup) (s t : Sections Fixup) (a b : Bool) → Step s (with_part n p s)
+    → (let r : Result (Sections Fixup) Refusal = if a then Err Absolute else (if b then Err TooLong else Ok (with_part n p s)) in r) ≡ Ok t → Step s t
+either_step n p s t true b h e = cc
+either_step n p s t false true h e = cc
+either_step n p s t false false h e = let same : with_part n p s ≡ t = cc in subst (λ (x : Sections Fixup). Step s x) same h
 
 pub put_step : (n : ℕ) (p : Part Fixup) (s t : Sections Fixup) → AreCounted s → part_length p ≡ n → BeginsAt (current_of s).size p → MayStand p → put n p s ≡ Ok t → Step s t
 unfolding put
-put_step n p s t h e b may made = either_step n p s t (exceeds (current_of s).size s.total n) (part_step n p s h e b may) made
+put_step n p s t h e b may made = either_step n p s t (refuses (current_of s) p) (exceeds (place_in (current_of s)) s.total n) (part_step n p s h e b may) made
 
 raised_step : (k : ℕ) (s : Sections Fixup) → AreCounted s → Step s (with_raised k s)
 raised_step k s h =
@@ -107,7 +120,7 @@ raise_step k s t (Err refusal) h e = cc
 pub align_step : (k : ℕ) (s t : Sections Fixup) → AreCounted s → aligned k s ≡ Ok t → Step s t
 unfolding aligned
 align_step k s t h e =
-    let n : ℕ = gap (current_of s).size (2 ^ k) in
+    let n : ℕ = gap (place_in (current_of s)) (2 ^ k) in
     raise_step k s t (put n (Zeros n) s) (λ u made. put_step n (Zeros n) s u h refl tt tt made) e
 
 -- ---- a section is chosen

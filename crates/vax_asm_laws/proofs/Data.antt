@@ -2,11 +2,11 @@
 use Rattle.std.proofs.Common.{◌≡◌, ◌*◌, ℕ, pos, Bool, true, false, cond, List, [], ◌∷◌, length, map, Option, Some, None, Result, Ok, Err, refl, ap, subst, ◌∙◌}
 use Rattle.std.proofs.Math.Nat.{mul_comm}
 use Rattle.std.proofs.lemmas.List.{length-replicate}
-use Rattle.vax_asm_data.specs.Data.{Ending, Plain, Counted_first, Zero_last, Described, address_stated, addresses_stated, align_by, align_stated, align_to, at_most_one, before_pieces, behind_pieces, boundary, boundary_named, characters_of, count_stated, count_within, data_stated, descriptor_head, descriptor_stated, even_stated, expression_stated, fixed, is_nothing, item_stated, item_told, items_stated, one_or_two, behind_fill, byte_of, fill_by, fill_where, filled_by, filled_to, piece_stated, place_behind, pieces_length, pieces_stated, placed_item, room, room_by, space_stated, text_by, text_parts, text_stated, to_odd, odd_stated, forward, unless_none, zero_stated}
-use Rattle.std.specs.Prelude.{◌&&◌, ◌-◌, ◌^◌, nat_lt, replicate, if◌then◌else◌}
+use Rattle.vax_asm_data.specs.Data.{Ending, Plain, Counted_first, Zero_last, Described, address_stated, addresses_stated, align_by, align_stated, align_to, at_most_one, before_pieces, behind_pieces, boundary, boundary_named, characters_of, count_stated, count_within, data_stated, descriptor_head, descriptor_stated, even_stated, expression_stated, fixed, is_nothing, item_stated, item_told, items_stated, one_or_two, behind_fill, byte_of, fill_by, fill_where, filled_by, filled_to, filling_with, piece_stated, place_behind, pieces_length, pieces_stated, placed_item, room, room_by, space_stated, text_by, text_parts, text_stated, to_odd, odd_stated, forward, unless_none, zero_stated}
+use Rattle.std.specs.Prelude.{◌&&◌, ◌==◌, ◌-◌, ◌^◌, nat_lt, replicate, if◌then◌else◌}
 use Rattle.vax_dialect.specs.Differences.{has_empty_items, has_further_directives}
 use Rattle.vax_asm_second.proofs.Fitting.{data_length}
-use Rattle.vax_asm_sections.specs.Layout.{Bytes, Field, Part, Sections, Zeros, aligned, current_of, gap, put}
+use Rattle.vax_asm_sections.specs.Layout.{Bytes, Field, Part, Sections, Zeros, aligned, current_of, gap, place_in, put}
 use Rattle.vax_asm_sections.specs.declared.types.Refusal.{Refusal}
 use Rattle.vax_lex.specs.declared.token.Token.{Token}
 use Rattle.vax_lex.specs.Grammar.{symbols_of}
@@ -215,12 +215,23 @@ behind_fill_goes k s t (Ok u) h e =
     (with_sections_goes u t (aligned k u.sections) (λ v made. align_step k u.sections v first.counted made) e)
 behind_fill_goes k s t (Err kind) h e = cc
 
+-- a filling is as long as it is said to be, and may stand anywhere
+record Fits (n : ℕ) (p : Part Fixup) : Type 0 where
+  length : part_length p ≡ n
+  begins : (at : ℕ) → BeginsAt at p
+  stands : MayStand p
+
+filling_fits : (byte n : ℕ) (b : Bool) → Fits n (if b then Zeros n else Bytes (replicate n byte))
+filling_fits byte n true = record { length = refl; begins = λ at. tt; stands = tt }
+filling_fits byte n false = record { length = length-replicate n byte; begins = λ at. tt; stands = tt }
+
 filled_to_goes : (byte k : ℕ) (s t : Standing) → IsCounted s → filled_to byte k s ≡ Ok t → Goes s t
 filled_to_goes byte k s t c e =
-    let n : ℕ = gap (current_of s.sections).size (2 ^ k) in
-    let part : Part Fixup = Bytes (replicate n byte) in
+    let n : ℕ = gap (place_in (current_of s.sections)) (2 ^ k) in
+    let part : Part Fixup = filling_with byte n in
+    let fits = filling_fits byte n (byte == 0) in
     behind_fill_goes k s t (with_sections s (put n part s.sections))
-    (λ u made. with_sections_goes s u (put n part s.sections) (λ v put_made. put_step n part s.sections v c (length-replicate n byte) tt tt put_made) made) e
+    (λ u made. with_sections_goes s u (put n part s.sections) (λ v put_made. put_step n part s.sections v c fits.length (fits.begins (current_of s.sections).size) fits.stands put_made) made) e
 
 filled_by_goes : (s t : Standing) (boundary byte : Result ℕ FaultKind) → IsCounted s → filled_by s boundary byte ≡ Ok t → Goes s t
 filled_by_goes s t (Ok k) (Ok byte) c e = filled_to_goes byte k s t c e
@@ -260,7 +271,7 @@ even_goes (x ∷ tokens) s t c e = cc
 pub odd_goes : (tokens : List Token) (s t : Standing) → IsCounted s → odd_stated tokens s ≡ Ok t → Goes s t
 unfolding odd_stated
 odd_goes [] s t c e =
-    let n = to_odd (current_of s.sections).size in
+    let n = to_odd (place_in (current_of s.sections)) in
     with_sections_goes s t (put n (Zeros n) s.sections) (λ u made. put_step n (Zeros n) s.sections u c refl tt tt made) e
 odd_goes (x ∷ tokens) s t c e = cc
 
@@ -270,5 +281,5 @@ further_goes false n s t c e = with_sections_goes s t (put n (Zeros n) s.section
 
 pub forward_goes : (to : ℕ) (s t : Standing) → IsCounted s → forward to s ≡ Ok t → Goes s t
 forward_goes to s t c e =
-    let size = (current_of s.sections).size in
-    further_goes (nat_lt to size) (to - size) s t c e
+    let place = place_in (current_of s.sections) in
+    further_goes (nat_lt to place) (to - place) s t c e

@@ -3,40 +3,44 @@ use Rattle.std.proofs.Common.{◌≡◌, ◌⊎◌, ◌+◌, ℕ, Bool, true, fa
 use Rattle.std.proofs.lemmas.Bool.{cases_eq, cases_lt}
 use Rattle.std.proofs.lemmas.List.{get_or_append_left, get_or_past, get_or-set_other}
 use Rattle.std.specs.List.{list_any}
-use Rattle.std.specs.Prelude.{◌==◌, ◌&&◌, ◌^◌, not, codes, if◌then◌else◌, map, nat_lt, replicate, slice_set}
+use Rattle.std.specs.Prelude.{◌==◌, ◌&&◌, ◌^◌, not, codes, if◌then◌else◌, is_some, map, nat_lt, slice_set}
 use Rattle.std.specs.Str.{bytes_eq}
-use Rattle.vax_asm.specs.Placing.{FaultyLabel, Faulty, Placed, Stands, also, behind_label, beside, body_stated, directed, directive_named, if_wide, instructed, instruction_named, is_bad, is_listing, is_wide, operated_by, placed, placed_by, stated, stated_by, token_of, with_range}
+use Rattle.vax_asm.specs.Placing.{FaultyLabel, Faulty, Placed, Stands, also, behind_label, beside, body_stated, directed, directive_named, if_wide, instructed, instruction_named, is_bad, is_listing, is_wide, operated_by, placed, placed_by, stated, stated_by, token_of, type_assigned, type_by, type_of_operand, with_range}
 use Rattle.vax_asm.specs.Walk.{Assembly}
-use Rattle.vax_asm_data.specs.Data.{Ending, Plain, Counted_first, Zero_last, Described, address_stated, addresses_stated, align_by, align_stated, align_to, at_most_one, before_pieces, behind_pieces, boundary, boundary_named, count_stated, count_within, data_stated, descriptor_head, descriptor_stated, even_stated, expression_stated, is_nothing, item_stated, items_stated, odd_stated, one_or_two, behind_fill, byte_of, fill_by, fill_where, filled_by, piece_stated, pieces_length, pieces_stated, placed_item, room, room_by, space_stated, text_by, text_stated, unless_none, zero_stated}
+use Rattle.vax_asm_data.specs.Data.{Ending, Plain, Counted_first, Zero_last, Described, address_stated, addresses_stated, align_by, align_stated, align_to, at_most_one, before_pieces, behind_pieces, boundary, boundary_named, count_stated, count_within, data_stated, descriptor_head, descriptor_stated, even_stated, expression_stated, is_nothing, item_stated, items_stated, odd_stated, one_or_two, behind_fill, byte_of, fill_by, fill_where, filled_by, filling_with, piece_stated, pieces_length, pieces_stated, placed_item, room, room_by, space_stated, text_by, text_stated, unless_none, zero_stated}
 use Rattle.vax_dialect.specs.Differences.{assigns_places, has_empty_items, has_further_directives, has_unnamed_psect}
 use Rattle.vax_asm_encode.specs.declared.operand.DataKind.{DataKind}
 use Rattle.vax_asm_encode.specs.declared.operand.DataKind.TheVariants.{Number}
 use Rattle.vax_asm_encode.specs.declared.operand.Operand.{Operand}
 use Rattle.vax_dialect.specs.declared.Dialect.{Dialect}
 use Rattle.vax_asm_first.specs.Fixups.{Assignment as Waiting, Filling, Fixup}
-use Rattle.vax_asm_first.specs.Progress.{Progress, Site, added, after_change, begun, counted, done, done_by, joined, site_of}
+use Rattle.vax_asm_first.specs.Progress.{Counted, Progress, Site, added, after_change, begun, counted, done, done_by, joined, site_of}
 use Rattle.vax_asm_first.specs.Standing.{Saved, Standing, block_of, here_at, here_in, last_of, misplaces, told, with_scope, with_sections, without_last}
 use Rattle.vax_asm_first.specs.declared.types.Origin.{Origin}
 use Rattle.vax_asm_instruction.specs.Placing.{by_default, has_expression, operand_as, operand_at}
 use Rattle.vax_asm_instruction.specs.Stating as instruction
 use Rattle.vax_asm_instruction.specs.Stating.{Reached, fault_at, if_counted, instruction_stated, opcode_stated, operand_stated, operands_stated, prepared, read_of, reference_by, reference_stated, site_for}
+use Rattle.vax_asm_instruction.specs.Typing.{typed_operand}
 use Rattle.vax_asm_labels.specs.Contexts.{block_restored, block_wanted, restored_by, restored_stated, saved_by, saved_stated}
 use Rattle.vax_asm_labels.specs.Defaults.{default_at, default_stated, displaced_by}
 use Rattle.vax_isa.specs.declared.actions.Narrow.{Narrow}
 use Rattle.vax_asm_labels.specs.Functions.{all_switched, function_at, functions_stated, switched, then_switched}
 use Rattle.vax_asm_labels.specs.declared.switches.Function.{Function}
-use Rattle.vax_asm_labels.specs.declared.switches.Function.TheVariants.{Idle, Always, Absolute, LongBlocks}
-use Rattle.vax_asm_labels.specs.Naming.{next_block, appears, assigned_by, assignment_stated, attributes_from, begins, begins_at, chosen, defined, end_by, end_stated, entry_named, entry_stated, is_place, label_stated, local_stated, name_assigned, name_in, name_of, named, names_from, names_stated, nothing_said, not_assigned, section_by, section_chosen, section_stated, moved_to, place_assigned, place_moved, shared, target, unnamed_chosen, without_waiting, symbol_stated, two_alone, with_name}
+use Rattle.vax_asm_labels.specs.declared.switches.Function.TheVariants.{Idle, Externals, Absolute, LongBlocks}
+use Rattle.vax_asm_labels.specs.Naming.{next_block, assigned_by, assignment_stated, attributes_from, begins, begins_at, begins_with, chosen, defined, end_by, end_stated, entry_named, entry_stated, is_place, label_stated, local_stated, name_assigned, name_in, name_of, named, names_from, names_stated, nothing_said, not_assigned, section_by, section_chosen, section_stated, moved_to, place_assigned, place_moved, shared, target, unnamed_chosen, without_waiting, symbol_stated, two_alone, with_name}
 use Rattle.vax_asm_labels.specs.Naming as naming
+use Rattle.vax_asm_labels.specs.Numbers.{number_at, number_by, number_stated}
 use Rattle.vax_asm_names.specs.Names as table
 use Rattle.vax_asm_names.specs.declared.types.Duplicate.{Duplicate}
+use Rattle.vax_asm_names.specs.declared.types.Linkage.{Linkage}
+use Rattle.vax_asm_names.specs.declared.types.Linkage.TheVariants as links
 use Rattle.vax_asm_names.specs.declared.types.Local.{Local}
-use Rattle.vax_asm_scope.specs.Scope.{Bound, Entry, Scope, assign_to, assigned, bind_all, closed, entry, entry_by, is_local, is_undefined, labelled, labelled_locally, local_by, mean, mean_here, mean_local, mean_name, opened_if_fresh, renamed, with_externals, external_at}
+use Rattle.vax_asm_scope.specs.Scope.{Bound, Entry, Scope, assign_to, assigned, bind_all, closed, entry, entry_by, is_external, is_local, labelled, linked, misses, labelled_locally, local_by, mean, mean_here, mean_local, mean_name, opened_if_fresh, renamed, with_externals, external_at}
 use Rattle.vax_asm_scope.specs.Used.{at_term, used}
-use Rattle.vax_asm_sections.specs.Layout.{Bytes, Part, Sections, Zeros, aligned, current_of, gap, put, selected}
+use Rattle.vax_asm_sections.specs.Layout.{Bytes, Part, Sections, Zeros, aligned, current_of, gap, place_in as next_place, put, selected}
 use Rattle.vax_asm_sections.specs.declared.types.Attributes.{Attributes}
 use Rattle.vax_asm_sections.specs.declared.types.Refusal.{Refusal}
-use Rattle.vax_asm_statement.specs.Items.{Item, Piece, Characters, Value as ByteValue, item_of, pieces_of as text_pieces, whole}
+use Rattle.vax_asm_statement.specs.Items.{Item, Piece, Characters, Value as ByteValue, item_of, name_alone, pieces_of as text_pieces, whole}
 use Rattle.vax_asm_statement.specs.Modes as modes
 use Rattle.vax_asm_statement.specs.Parts.{parts}
 use Rattle.vax_asm_statement.specs.Reading.{Assignment, Malformed, Nothing, Operation, Parsed, What, parsed}
@@ -327,8 +331,8 @@ behind_fill_in k s (Err kind) h = tt
 
 filled_in : (s : Standing) (boundary byte : Result ℕ FaultKind) → StandIn s (filled_by s boundary byte)
 filled_in s (Ok k) (Ok byte) =
-    let n : ℕ = gap (current_of s.sections).size (2 ^ k) in
-    let found : Result (Sections Fixup) Refusal = put n (Bytes (replicate n byte)) s.sections in
+    let n : ℕ = gap (next_place (current_of s.sections)) (2 ^ k) in
+    let found : Result (Sections Fixup) Refusal = put n (filling_with byte n) s.sections in
     behind_fill_in k s (with_sections s found) (sections_in s found)
 filled_in s (Ok k) (Err kind) = tt
 filled_in s (Err kind) (Ok byte) = tt
@@ -425,25 +429,25 @@ abbrev SomeIn : Scope → Option Scope → Type 0
 SomeIn s (Some t) = Lasts s t
 SomeIn s None = Unit {0}
 
-appears_lasts : (global : Bool) (name : List ℕ) (s : Scope) → Lasts s (appears global name s)
-appears_lasts true name s = entry_lasts name s
-appears_lasts false name s = entry_lasts name s
+with_name_in : (linkage : Linkage) (s : Scope) (name : Option (List ℕ)) (o : Option Scope) → SomeIn s o → SomeIn s (with_name linkage name o)
+with_name_in linkage s (Some name) (Some t) h = stay_then s.sources t.sources (linked linkage name t).sources h (entry_lasts name t)
+with_name_in linkage s (Some name) None h = tt
+with_name_in linkage s None o h = tt
 
-with_name_in : (global : Bool) (s : Scope) (name : Option (List ℕ)) (o : Option Scope) → SomeIn s o → SomeIn s (with_name global name o)
-with_name_in global s (Some name) (Some t) h = stay_then s.sources t.sources (appears global name t).sources h (appears_lasts global name t)
-with_name_in global s (Some name) None h = tt
-with_name_in global s None o h = tt
-
-names_in : (global : Bool) (line : List ℕ) (found : List (List Token)) (s : Scope) (o : Option Scope) → SomeIn s o → SomeIn s (names_from global line found o)
-names_in global line [] s o h = h
-names_in global line (part ∷ found) s o h = names_in global line found s (with_name global (name_of line part) o) (with_name_in global s (name_of line part) o h)
+names_in : (linkage : Linkage) (line : List ℕ) (found : List (List Token)) (s : Scope) (o : Option Scope) → SomeIn s o → SomeIn s (names_from linkage line found o)
+names_in linkage line [] s o h = h
+names_in linkage line (part ∷ found) s o h = names_in linkage line found s (with_name linkage (name_of line part) o) (with_name_in linkage s (name_of line part) o h)
 
 named_in : (s : Standing) (o : Option Scope) → SomeIn s.scope o → StandIn s (named s o)
 named_in s (Some t) h = h
 named_in s None h = tt
 
+begins_with_in : (missing : Bool) (name : List ℕ) (e : Entry) (s : Standing) → Lasts s.scope e.scope → StandIn s (begins_with missing name e s)
+begins_with_in true name e s h = tt
+begins_with_in false name e s h = h
+
 begins_at_in : (name : Option (List ℕ)) (s : Standing) → StandIn s (begins_at name s)
-begins_at_in (Some name) s = entry_lasts name s.scope
+begins_at_in (Some name) s = let e : Entry = entry name s.scope in begins_with_in (misses name e.scope) name e s (entry_lasts name s.scope)
 begins_at_in None s = tt
 
 end_in : (line : List ℕ) (found : List (List Token)) (s : Standing) → StandIn s (end_by line found s)
@@ -505,8 +509,7 @@ reference_in k site (o ∷ p ∷ more) s = tt
 switched_in : (on : Bool) (f : Option Function) (s : Standing) → StandIn s (switched on f s)
 switched_in on None s = tt
 switched_in on (Some Idle) s = stay_same s.scope.sources
-switched_in true (Some Always) s = stay_same s.scope.sources
-switched_in false (Some Always) s = tt
+switched_in on (Some Externals) s = stay_same s.scope.sources
 switched_in on (Some Absolute) s = stay_same s.scope.sources
 switched_in on (Some LongBlocks) s = block_lasts (not on) s.scope s.scope (stay_same s.scope.sources)
 
@@ -517,47 +520,6 @@ then_in on f s (Err kind) h = tt
 all_in : (on : Bool) (line : List ℕ) (found : List (List Token)) (s : Standing) (r : Result Standing FaultKind) → StandIn s r → StandIn s (all_switched on line found r)
 all_in on line [] s r h = h
 all_in on line (part ∷ found) s r h = all_in on line found s (then_switched on (function_at line part) r) (then_in on (function_at line part) s r h)
-
-directed_in : (d : Directive) (origin : Origin) (line : List ℕ) (tokens : List Token) (s : Standing) → StandIn s (directed d origin line tokens s)
-unfolding section_stated entry_stated saved_stated default_stated data_stated addresses_stated text_stated space_stated reference_stated align_stated names_stated functions_stated end_stated
-directed_in directive.Section origin line tokens s = section_in line (parts tokens) s
-directed_in directive.Entry origin line tokens s = two_in (parts tokens) s _ (λ name mask. entry_in (site_of origin line s) (name_of line name) mask s)
-directed_in (directive.Data kind) origin line tokens s =
-    none_in tokens s _ (done_in s (items_stated kind (site_of origin line s) (map item_of (parts tokens)) (begun s)) (items_last kind (site_of origin line s) (map item_of (parts tokens)) (begun s)))
-directed_in directive.Address origin line tokens s =
-    none_in tokens s _ (done_in s (items_stated (Number size.L) (site_of origin line s) (map whole (parts tokens)) (begun s)) (items_last (Number size.L) (site_of origin line s) (map whole (parts tokens)) (begun s)))
-directed_in directive.Text origin line tokens s = none_in tokens s _ (text_in_by Plain (site_of origin line s) s (text_pieces tokens))
-directed_in directive.CountedText origin line tokens s = none_in tokens s _ (text_in_by Counted_first (site_of origin line s) s (text_pieces tokens))
-directed_in directive.ZeroText origin line tokens s = none_in tokens s _ (text_in_by Zero_last (site_of origin line s) s (text_pieces tokens))
-directed_in directive.DescribedText origin line tokens s = none_in tokens s _ (text_in_by Described (site_of origin line s) s (text_pieces tokens))
-directed_in (directive.Space k) origin line tokens s =
-    most_in (parts tokens) s (λ count. room_by k (site_of origin line s) count s)
-    (λ o. let c = counted (site_of origin line s) o s.scope in stand_then s (with_scope c.scope s) (room k (with_scope c.scope s) c.number) (counted_lasts (site_of origin line s) o s.scope) (room_in k (with_scope c.scope s) c.number))
-directed_in (directive.Reference k) origin line tokens s = reference_in k (site_of origin line s) (parts tokens) s
-directed_in directive.Align origin line tokens s =
-    one_or_two_in (parts tokens) s (λ one. align_by (site_of origin line s) one s) (λ one byte. fill_where (has_further_directives s.dialect) (site_of origin line s) one byte s)
-    (λ one. let c = boundary (site_of origin line s) one (boundary_named line one) s.scope in
-    stand_then s (with_scope c.scope s) (align_to (with_scope c.scope s) c.number) (boundary_lasts (site_of origin line s) one (boundary_named line one) s.scope) (align_in (with_scope c.scope s) c.number))
-    (λ one byte. where_in (has_further_directives s.dialect) (site_of origin line s) one byte s)
-directed_in directive.Even origin line tokens s = even_in tokens s
-directed_in directive.Odd origin line tokens s = odd_in tokens s
-directed_in directive.Global origin line tokens s = none_in tokens s _ (named_in s (names_from true line (parts tokens) (Some s.scope)) (names_in true line (parts tokens) s.scope (Some s.scope) (stay_same s.scope.sources)))
-directed_in directive.External origin line tokens s = none_in tokens s _ (named_in s (names_from false line (parts tokens) (Some s.scope)) (names_in false line (parts tokens) s.scope (Some s.scope) (stay_same s.scope.sources)))
-directed_in directive.Enable origin line tokens s = none_in tokens s _ (all_in true line (parts tokens) s (Ok s) (stay_same s.scope.sources))
-directed_in directive.Disable origin line tokens s = none_in tokens s _ (all_in false line (parts tokens) s (Ok s) (stay_same s.scope.sources))
-directed_in directive.Default origin line tokens s = two_in (parts tokens) s _ (λ name size. displaced_in (default_at line name size) s)
-directed_in directive.Save origin line tokens s = saved_in (block_wanted line (parts tokens)) s
-directed_in directive.Restore origin line tokens s = restored_in tokens s
-directed_in directive.Listing origin line tokens s = stay_same s.scope.sources
-directed_in directive.End origin line tokens s = end_in line (parts tokens) s
-
-instructed_in : (o : Option Instruction) (origin : Origin) (line : List ℕ) (tokens : List Token) (s : Standing) → StandIn s (instructed o origin line tokens s)
-instructed_in (Some i) origin line tokens s = instruction_in (row_of i) origin line tokens s
-instructed_in None origin line tokens s = tt
-
-operated_in : (o : Option Directive) (origin : Origin) (line name : List ℕ) (tokens : List Token) (s : Standing) → StandIn s (operated_by o origin line name tokens s)
-operated_in (Some d) origin line name tokens s = directed_in d origin line tokens s
-operated_in None origin line name tokens s = instructed_in (instruction_named name) origin line tokens s
 
 assigned_by_in : (global : Bool) (name : List ℕ) (s : Standing) (u r : _) → Lasts s.scope u → ScopeIn u r → StandIn s (assigned_by global name s r)
 assigned_by_in global name s u (Ok t) a h = stay_then s.scope.sources u.sources (shared global name t).sources a (stay_then u.sources t.sources (shared global name t).sources h (shared_lasts global name t))
@@ -583,7 +545,7 @@ moved_in (Err kind) s = tt
 place_in : (b : Bool) (site : Site) (tokens : List Token) (s : Standing) → StandIn s (place_assigned b site tokens s)
 place_in true site tokens s =
     let w = told site.dialect site.here (symbols_of site.line tokens) s.scope in
-    stand_then s (with_scope w.scope s) (place_moved site tokens s) (told_lasts site.dialect site.here (symbols_of site.line tokens) s.scope) (moved_in (target s.sections.current w.value) (with_scope w.scope s))
+    stand_then s (with_scope w.scope s) (place_moved site tokens s) (told_lasts site.dialect site.here (symbols_of site.line tokens) s.scope) (moved_in (target (is_some (current_of s.sections).absolute) s.sections.current w.value) (with_scope w.scope s))
 place_in false site tokens s = tt
 
 assignment_by : (place local : Bool) (site : Site) (global : Bool) (name : List ℕ) (tokens : List Token) (s : Standing)
@@ -591,6 +553,86 @@ assignment_by : (place local : Bool) (site : Site) (global : Bool) (name : List 
 assignment_by true local site global name tokens s = place_in (assigns_places s.dialect && not global) site tokens s
 assignment_by false true site global name tokens s = tt
 assignment_by false false site global name tokens s = name_in_result site global name tokens s
+
+-- ---- types of operands
+
+number_in_by : (origin : Origin) (line : List ℕ) (n : ℕ) (o : Option Token) (s : Standing) → StandIn s (number_by origin line n o s)
+unfolding assignment_stated
+number_in_by origin line n (Some name) s = assignment_by (is_place (name_in line name)) (is_local (name_in line name)) (site_of origin line s) false (name_in line name) (number_at n name ∷ []) s
+number_in_by origin line n None s = tt
+
+number_in : (origin : Origin) (line : List ℕ) (name : List Token) (n : ℕ) (s : Standing) → StandIn s (number_stated origin line name n s)
+unfolding number_stated
+number_in origin line name n s = number_in_by origin line n (name_alone line name) s
+
+typed_lasts : (origin : Origin) (line : List ℕ) (tokens : List Token) (s : Standing) → Lasts s.scope (typed_operand origin line tokens s).scope
+unfolding typed_operand
+typed_lasts origin line tokens s =
+    let o : modes.Operand = operand_as s.absolute (read_of size.L) line tokens in
+    let here : Site = site_for s (current_of s.sections).size (site_of origin line s) in
+    prepared_by (has_expression o.mode) (misplaces s.dialect (symbols_of line o.expression)) here o s.scope
+
+type_assigned_in : (origin : Origin) (line : List ℕ) (name : List Token) (n : Result ℕ FaultKind) (s : Standing) → StandIn s (type_assigned origin line name n s)
+type_assigned_in origin line name (Ok n) s = number_in origin line name n s
+type_assigned_in origin line name (Err kind) s = tt
+
+type_in : (origin : Origin) (line : List ℕ) (name operand : List Token) (s : Standing) → StandIn s (type_of_operand origin line name operand s)
+type_in origin line name [] s = number_in origin line name 0 s
+type_in origin line name (t ∷ operand) s =
+    let c : Counted = typed_operand origin line (t ∷ operand) s in
+    stand_then s (with_scope c.scope s) (type_assigned origin line name c.number (with_scope c.scope s)) (typed_lasts origin line (t ∷ operand) s) (type_assigned_in origin line name c.number (with_scope c.scope s))
+
+types_in : (origin : Origin) (line : List ℕ) (found : List (List Token)) (s : Standing) → StandIn s (type_by origin line found s)
+types_in origin line [] s = tt
+types_in origin line (name ∷ []) s = type_in origin line name [] s
+types_in origin line (name ∷ operand ∷ []) s = type_in origin line name operand s
+types_in origin line (name ∷ operand ∷ more ∷ others) s = tt
+
+-- ---- directives
+
+directed_in : (d : Directive) (origin : Origin) (line : List ℕ) (tokens : List Token) (s : Standing) → StandIn s (directed d origin line tokens s)
+unfolding section_stated entry_stated saved_stated default_stated data_stated addresses_stated text_stated space_stated reference_stated align_stated names_stated functions_stated end_stated
+directed_in directive.Section origin line tokens s = section_in line (parts tokens) s
+directed_in directive.Entry origin line tokens s = two_in (parts tokens) s _ (λ name mask. entry_in (site_of origin line s) (name_of line name) mask s)
+directed_in (directive.Data kind) origin line tokens s =
+    none_in tokens s _ (done_in s (items_stated kind (site_of origin line s) (map item_of (parts tokens)) (begun s)) (items_last kind (site_of origin line s) (map item_of (parts tokens)) (begun s)))
+directed_in directive.Address origin line tokens s =
+    none_in tokens s _ (done_in s (items_stated (Number size.L) (site_of origin line s) (map whole (parts tokens)) (begun s)) (items_last (Number size.L) (site_of origin line s) (map whole (parts tokens)) (begun s)))
+directed_in directive.Text origin line tokens s = none_in tokens s _ (text_in_by Plain (site_of origin line s) s (text_pieces tokens))
+directed_in directive.CountedText origin line tokens s = none_in tokens s _ (text_in_by Counted_first (site_of origin line s) s (text_pieces tokens))
+directed_in directive.ZeroText origin line tokens s = none_in tokens s _ (text_in_by Zero_last (site_of origin line s) s (text_pieces tokens))
+directed_in directive.DescribedText origin line tokens s = none_in tokens s _ (text_in_by Described (site_of origin line s) s (text_pieces tokens))
+directed_in (directive.Space k) origin line tokens s =
+    most_in (parts tokens) s (λ count. room_by k (site_of origin line s) count s)
+    (λ o. let c = counted (site_of origin line s) o s.scope in stand_then s (with_scope c.scope s) (room k (with_scope c.scope s) c.number) (counted_lasts (site_of origin line s) o s.scope) (room_in k (with_scope c.scope s) c.number))
+directed_in (directive.Reference k) origin line tokens s = reference_in k (site_of origin line s) (parts tokens) s
+directed_in directive.Align origin line tokens s =
+    one_or_two_in (parts tokens) s (λ one. align_by (site_of origin line s) one s) (λ one byte. fill_where (has_further_directives s.dialect) (site_of origin line s) one byte s)
+    (λ one. let c = boundary (site_of origin line s) one (boundary_named line one) s.scope in
+    stand_then s (with_scope c.scope s) (align_to (with_scope c.scope s) c.number) (boundary_lasts (site_of origin line s) one (boundary_named line one) s.scope) (align_in (with_scope c.scope s) c.number))
+    (λ one byte. where_in (has_further_directives s.dialect) (site_of origin line s) one byte s)
+directed_in directive.Even origin line tokens s = even_in tokens s
+directed_in directive.Odd origin line tokens s = odd_in tokens s
+directed_in directive.Global origin line tokens s = none_in tokens s _ (named_in s (names_from links.Global line (parts tokens) (Some s.scope)) (names_in links.Global line (parts tokens) s.scope (Some s.scope) (stay_same s.scope.sources)))
+directed_in directive.Weak origin line tokens s = none_in tokens s _ (named_in s (names_from links.Weak line (parts tokens) (Some s.scope)) (names_in links.Weak line (parts tokens) s.scope (Some s.scope) (stay_same s.scope.sources)))
+directed_in directive.External origin line tokens s = none_in tokens s _ (named_in s (names_from links.External line (parts tokens) (Some s.scope)) (names_in links.External line (parts tokens) s.scope (Some s.scope) (stay_same s.scope.sources)))
+directed_in directive.Enable origin line tokens s = none_in tokens s _ (all_in true line (parts tokens) s (Ok s) (stay_same s.scope.sources))
+directed_in directive.Disable origin line tokens s = none_in tokens s _ (all_in false line (parts tokens) s (Ok s) (stay_same s.scope.sources))
+directed_in directive.Default origin line tokens s = two_in (parts tokens) s _ (λ name size. displaced_in (default_at line name size) s)
+directed_in directive.Save origin line tokens s = saved_in (block_wanted line (parts tokens)) s
+directed_in directive.Restore origin line tokens s = restored_in tokens s
+directed_in directive.Listing origin line tokens s = stay_same s.scope.sources
+directed_in directive.OperandType origin line tokens s = types_in origin line (parts tokens) s
+directed_in directive.Error origin line tokens s = tt
+directed_in directive.End origin line tokens s = end_in line (parts tokens) s
+
+instructed_in : (o : Option Instruction) (origin : Origin) (line : List ℕ) (tokens : List Token) (s : Standing) → StandIn s (instructed o origin line tokens s)
+instructed_in (Some i) origin line tokens s = instruction_in (row_of i) origin line tokens s
+instructed_in None origin line tokens s = tt
+
+operated_in : (o : Option Directive) (origin : Origin) (line name : List ℕ) (tokens : List Token) (s : Standing) → StandIn s (operated_by o origin line name tokens s)
+operated_in (Some d) origin line name tokens s = directed_in d origin line tokens s
+operated_in None origin line name tokens s = instructed_in (instruction_named name) origin line tokens s
 
 body_in : (origin : Origin) (line : List ℕ) (what : What) (s : Standing) → StandIn s (body_stated origin line what s).result
 unfolding body_stated assignment_stated
@@ -679,7 +721,7 @@ externals_by i n names xs false h = h i xs
 
 externals_last : (i : ℕ) (names : List table.Name) (xs : List Source) → Stay xs (with_externals i names xs)
 externals_last i [] xs = stay_same xs
-externals_last i (n ∷ names) xs = externals_by i n names xs (is_undefined n) (λ j ys. externals_last j names ys)
+externals_last i (n ∷ names) xs = externals_by i n names xs (is_external n) (λ j ys. externals_last j names ys)
 
 pub all_stay : (a b : Assembly) (lines : List Line) → Leads a lines b → Stay a.standing.scope.sources (closed b.standing.scope).sources
 all_stay a b lines h =

@@ -18,7 +18,6 @@ use Rattle.vax_asm_first.specs.Fixups.{Assignment, Fixup}
 use Rattle.vax_asm_first.specs.Standing.{Standing}
 use Rattle.vax_asm_first.specs.declared.types.Content.{Content}
 use Rattle.vax_asm_first.specs.declared.types.Content.TheVariants as content
-use Rattle.vax_asm_scope.specs.Scope.{external_names}
 use Rattle.vax_asm_laws.specs.Counted.{IsCounted, end_of, part_length, section_at}
 use Rattle.vax_asm_laws.specs.Leading.{LiesBehind}
 use Rattle.vax_asm_laws.specs.Counted.{AreCounted, Keeps}
@@ -88,7 +87,7 @@ pub sections_are : (s : Standing) (assigned : List Assignment) (begin : Option O
 unfolding filled_in
 sections_are s assigned begin m e =
     let k : Known = known_in s in
-    ap (λ (n : Module). n.sections) (faulty_is (first_of (faults k s.sections.all assigned begin)) (module_of k (laid k 0 s.sections.all) s.scope.names.all (external_names s.scope.names.all) s.transfer) m e)
+    ap (λ (n : Module). n.sections) (faulty_is (first_of (faults k s.sections.all assigned begin)) (module_of k (laid k 0 s.sections.all) s.scope.names.all s.transfer) m e)
 
 pub sizes_are : (s : Standing) (assigned : List Assignment) (begin : Option Opening) (m : Module) → AreCounted s.sections → filled_in s assigned begin ≡ Ok m → map (λ (x : Section). length x.bytes) m.sections ≡ map (λ x. x.size) s.sections.all
 sizes_are s assigned begin m h e =

@@ -2,6 +2,7 @@ pub mod Counting
 pub mod Data
 mod Naming
 mod Operands
+mod Typing
 mod Stating
 pub mod Laying
 pub mod Lying

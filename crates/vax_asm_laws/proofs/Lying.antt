@@ -12,7 +12,6 @@ use Rattle.vax_asm_first.specs.Standing.{Standing}
 use Rattle.vax_asm_first.specs.declared.types.Content.{Content}
 use Rattle.vax_asm_first.specs.declared.types.Content.TheVariants as content
 use Rattle.vax_asm_first.specs.Contents.{IsSound}
-use Rattle.vax_asm_scope.specs.Scope.{external_names}
 use Rattle.vax_asm_second.proofs.Fitting.{data_fits, data_length, field_width, link_fits, operand_fits}
 use Rattle.vax_asm_second.specs.Contents.{before_field, bytes_in, every, field_in, moved, relocs_in, specifiers}
 use Rattle.vax_asm_second.specs.Faults.{first_of, value_filled}
@@ -207,7 +206,7 @@ relocs_are : (s : Standing) (assigned : List Assignment) (begin : Option Opening
 unfolding filled_in
 relocs_are s assigned begin m e =
     let k : Known = known_in s in
-    ap (λ (n : Module). n.relocs) (faulty_is (first_of (faults k s.sections.all assigned begin)) (module_of k (laid k 0 s.sections.all) s.scope.names.all (external_names s.scope.names.all) s.transfer) m e)
+    ap (λ (n : Module). n.relocs) (faulty_is (first_of (faults k s.sections.all assigned begin)) (module_of k (laid k 0 s.sections.all) s.scope.names.all s.transfer) m e)
 
 stands_in : (k : Known) (i at : ℕ) (p : Part Fixup) (section : Section) (relocs whole : List Reloc) (bytes : List ℕ) → section.bytes ≡ bytes → Among i relocs whole → Amid k i 0 at p bytes relocs → StandsAt k i at p section whole
 stands_in k i at p section relocs whole bytes e among a =

@@ -1,6 +1,6 @@
 -- Names, sections, entries and the end.
 use Rattle.std.proofs.Common.{◌≡◌, ℕ, Bool, true, false, List, [], ◌∷◌, Option, Some, None, Result, Ok, Err, refl, sym, ap, subst, ◌∙◌}
-use Rattle.std.specs.Prelude.{◌&&◌, ◌++◌, length, nat_lt, not, if◌then◌else◌}
+use Rattle.std.specs.Prelude.{◌&&◌, ◌++◌, is_some, length, nat_lt, not, if◌then◌else◌}
 use Rattle.vax_dialect.specs.Differences.{assigns_places, has_unnamed_psect}
 use Rattle.vax_asm_sections.specs.Layout.{Sections, current_of, selected}
 use Rattle.vax_asm_sections.specs.declared.types.Attributes.{Attributes}
@@ -10,18 +10,19 @@ use Rattle.vax_lex.specs.declared.token.Token.{Token}
 use Rattle.vax_macro.specs.declared.error.FaultKind.{FaultKind}
 use Rattle.vax_macro.specs.declared.error.FaultKind.TheVariants as fault
 use Rattle.vax_asm_names.specs.declared.types.Duplicate.{Duplicate}
+use Rattle.vax_asm_names.specs.declared.types.Linkage.{Linkage}
 use Rattle.vax_asm_labels.specs.Contexts.{block_restored, block_wanted, restored_by, restored_stated, saved_by, saved_stated}
 use Rattle.vax_asm_labels.specs.Defaults.{default_at, default_stated, displaced_by}
 use Rattle.vax_isa.specs.declared.actions.Narrow.{Narrow}
 use Rattle.vax_asm_labels.specs.Functions.{all_switched, function_at, functions_stated, switched, then_switched}
 use Rattle.vax_asm_labels.specs.declared.switches.Function.{Function}
-use Rattle.vax_asm_labels.specs.declared.switches.Function.TheVariants.{Idle, Always, Absolute, LongBlocks}
-use Rattle.vax_asm_labels.specs.Naming.{next_block, moved_to, place_assigned, target, unnamed_chosen, without_waiting, assigned_by, assignment_stated, attributes_from, begins, begins_at, chosen, defined, end_by, end_stated, entry_named, entry_stated, fault_of, is_place, label_stated, local_stated, name_assigned, name_in, name_of, named, names_from, names_stated, not_assigned, nothing_said, section_by, section_chosen, section_stated, shared, symbol_stated, two_alone}
+use Rattle.vax_asm_labels.specs.declared.switches.Function.TheVariants.{Idle, Externals, Absolute, LongBlocks}
+use Rattle.vax_asm_labels.specs.Naming.{next_block, moved_to, place_assigned, target, unnamed_chosen, without_waiting, assigned_by, assignment_stated, attributes_from, begins, begins_at, begins_with, chosen, defined, end_by, end_stated, entry_named, entry_stated, fault_of, is_place, label_stated, local_stated, name_assigned, name_in, name_of, named, names_from, names_stated, not_assigned, nothing_said, section_by, section_chosen, section_stated, shared, symbol_stated, two_alone}
 use Rattle.vax_asm_first.specs.Fixups.{Fixup}
 use Rattle.vax_asm_first.specs.Progress.{Progress, Site, after_change, joined, site_of}
 use Rattle.vax_asm_first.specs.Standing.{Saved, Standing, Told, block_of, here_in, last_of, told, with_scope, without_last}
 use Rattle.vax_asm_first.specs.declared.types.Origin.{Origin}
-use Rattle.vax_asm_scope.specs.Scope.{Scope, assigned, entry, in_block, is_local, labelled, labelled_locally}
+use Rattle.vax_asm_scope.specs.Scope.{Entry, Scope, assigned, assuming, entry, in_block, is_local, labelled, labelled_locally, misses}
 use Rattle.vax_asm_statement.specs.Items.{whole}
 use Rattle.vax_asm_statement.specs.Parts.{parts}
 use Rattle.vax_asm_statement.specs.declared.reading.Label.{Label}
@@ -84,7 +85,7 @@ moved_goes s t (Err kind) c e = cc
 place_goes : (b : Bool) (site : Site) (tokens : List Token) (s t : Standing) → IsCounted s → place_assigned b site tokens s ≡ Ok t → Goes s t
 place_goes true site tokens s t c e =
     let w : Told = told site.dialect site.here (symbols_of site.line tokens) s.scope in
-    moved_goes (with_scope w.scope s) t (target s.sections.current w.value) c e
+    moved_goes (with_scope w.scope s) t (target (is_some (current_of s.sections).absolute) s.sections.current w.value) c e
 place_goes false site tokens s t c e = cc
 
 assignment_by : (place local : Bool) (site : Site) (global : Bool) (name : List ℕ) (tokens : List Token) (s t : Standing) → IsCounted s
@@ -192,16 +193,15 @@ named_goes : (s t : Standing) (o : Option Scope) → IsCounted s → named s o �
 named_goes s t (Some scope) c e = same_goes s t (with_scope scope s) c refl e
 named_goes s t None c e = cc
 
-pub names_go : (global : Bool) (line : List ℕ) (tokens : List Token) (s t : Standing) → IsCounted s → names_stated global line tokens s ≡ Ok t → Goes s t
+pub names_go : (linkage : Linkage) (line : List ℕ) (tokens : List Token) (s t : Standing) → IsCounted s → names_stated linkage line tokens s ≡ Ok t → Goes s t
 unfolding names_stated
-names_go global line tokens s t c e =
-    unless_none_goes tokens (named s (names_from global line (parts tokens) (Some s.scope))) s t (named_goes s t (names_from global line (parts tokens) (Some s.scope)) c) e
+names_go linkage line tokens s t c e =
+    unless_none_goes tokens (named s (names_from linkage line (parts tokens) (Some s.scope))) s t (named_goes s t (names_from linkage line (parts tokens) (Some s.scope)) c) e
 
 switched_goes : (on : Bool) (f : Option Function) (s t : Standing) → IsCounted s → switched on f s ≡ Ok t → Goes s t
 switched_goes on None s t c e = cc
 switched_goes on (Some Idle) s t c e = same_goes s t s c refl e
-switched_goes true (Some Always) s t c e = same_goes s t s c refl e
-switched_goes false (Some Always) s t c e = cc
+switched_goes on (Some Externals) s t c e = same_goes s t (with_scope (assuming on s.scope) s) c refl e
 switched_goes on (Some Absolute) s t c e = same_goes s t (record s { absolute = on }) c refl e
 switched_goes on (Some LongBlocks) s t c e = same_goes s t (record s { scope = next_block (not on) s.scope; keeps_block = on }) c refl e
 
@@ -225,8 +225,12 @@ unfolding default_stated
 default_goes line tokens s t c e =
     two_goes (parts tokens) (λ name size. displaced_by (default_at line name size) s) s t (λ name size made. displaced_goes (default_at line name size) s t c made) e
 
+begins_with_goes : (missing : Bool) (name : List ℕ) (found : Entry) (s t : Standing) → IsCounted s → begins_with missing name found s ≡ Ok t → Goes s t
+begins_with_goes true name found s t c e = cc
+begins_with_goes false name found s t c e = subst (λ (x : Sections Fixup). Step s.sections x) (ap (λ (r : Result Standing FaultKind). sections_in r s) e) (step_same s.sections c)
+
 begins_goes : (name : Option (List ℕ)) (s t : Standing) → IsCounted s → begins_at name s ≡ Ok t → Goes s t
-begins_goes (Some name) s t c e = subst (λ (x : Sections Fixup). Step s.sections x) (ap (λ (r : Result Standing FaultKind). sections_in r s) e) (step_same s.sections c)
+begins_goes (Some name) s t c e = let found : Entry = entry name s.scope in begins_with_goes (misses name found.scope) name found s t c e
 begins_goes None s t c e = cc
 
 end_goes_by : (line : List ℕ) (found : List (List Token)) (s t : Standing) → IsCounted s → end_by line found s ≡ Ok t → Goes s t

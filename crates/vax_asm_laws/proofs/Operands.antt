@@ -1,5 +1,5 @@
 -- Instructions.
-use Rattle.std.proofs.Common.{◌≡◌, ◌<◌, ◌≤◌, ◌+◌, ℕ, suc, arith, Bool, true, false, List, [], ◌∷◌, length, Option, Some, None, Ok, Err, refl, sym, ap, subst, ◌∙◌}
+use Rattle.std.proofs.Common.{◌≡◌, ◌<◌, ◌≤◌, ◌+◌, ℕ, suc, arith, Bool, true, false, List, [], ◌∷◌, length, Option, Some, None, Ok, refl, sym, ap, subst, ◌∙◌}
 use Rattle.std.proofs.lemmas.List.{get_or-set_same}
 use Rattle.std.proofs.lemmas.Bool.Decides.{nat_tests}
 use Rattle.std.specs.Prelude.{◌==◌, if◌then◌else◌, slice_index_or}
@@ -12,15 +12,15 @@ use Rattle.vax_asm_instruction.specs.Placing.{by_default, if_stands, operand_as,
 use Rattle.vax_asm_instruction.specs.Stating.{Prepared, Reached, behind, fault_at, fixed, fixup_at, if_counted, instruction_stated, opcode_stated, operand_stated, operands_stated, placed, prepared, read_of, reference_by, reference_stated, site_for}
 use Rattle.vax_isa.specs.Rows.{IsFormed, IsKind, Plain}
 use Rattle.vax_isa.specs.declared.OperandKind.{OperandKind}
-use Rattle.vax_asm_sections.specs.Layout.{Bytes, Field as Kept, Part, Sections, current_of, exceeds, longer, put, unnamed, with_part}
-use Rattle.vax_asm_sections.specs.declared.types.Refusal.TheVariants.{TooLong}
+use Rattle.vax_asm_sections.specs.Layout.{Bytes, Field as Kept, Part, Section, Sections, current_of, longer, unnamed, with_part}
 use Rattle.vax_lex.specs.declared.token.Token.{Token}
 use Rattle.vax_macro.specs.declared.error.FaultKind.{FaultKind}
 use Rattle.vax_word.specs.declared.Size.{Size}
 use Rattle.vax_asm_first.specs.Faults.{lowest}
 use Rattle.vax_asm_first.specs.Fixups.{Filling, Fixup}
-use Rattle.vax_asm_first.specs.Progress.{Progress, Site, added, after_change, done, done_by, site_of}
-use Rattle.vax_asm_first.specs.Standing.{Standing, with_scope, with_sections}
+use Rattle.vax_asm_first.specs.Progress.{Progress, Site, added, done, done_by, site_of}
+use Rattle.vax_asm_first.proofs.Putting.{IsData, longer_relative, put_made, put_relative}
+use Rattle.vax_asm_first.specs.Standing.{Standing, with_scope}
 use Rattle.vax_asm_first.specs.declared.types.Origin.{Origin}
 use Rattle.vax_asm_statement.specs.Parts.{parts}
 use Rattle.vax_asm_statement.specs.Sizes.{sized}
@@ -65,29 +65,21 @@ record Fine (s : Standing) (r : Reached) : Type 0 where
   goes : Goes s r.progress.standing
   at : r.at ≡ (current_of r.progress.standing.sections).size
 
--- what has no fault is added
-put_by : (n : ℕ) (p : Part Fixup) (s : Standing) (b : Bool) → (after_change s (with_sections s (if b then Err TooLong else Ok (with_part n p s.sections)))).fault ≡ None
-    → (after_change s (with_sections s (if b then Err TooLong else Ok (with_part n p s.sections)))).standing.sections ≡ with_part n p s.sections
-put_by n p s true h = cc
-put_by n p s false h = refl
-
-put_made : (n : ℕ) (p : Part Fixup) (s : Standing) → (added n p s).fault ≡ None → (added n p s).standing.sections ≡ with_part n p s.sections
-unfolding put
-put_made n p s h = put_by n p s (exceeds (current_of s.sections).size s.sections.total n) h
-
-added_fine : (n : ℕ) (p : Part Fixup) (s : Standing) → IsCounted s → part_length p ≡ n → BeginsAt (current_of s.sections).size p → MayStand p → (added n p s).fault ≡ None
+added_fine : (n : ℕ) (p : Part Fixup) (s : Standing) → IsData p → IsCounted s → part_length p ≡ n → BeginsAt (current_of s.sections).size p → MayStand p → (added n p s).fault ≡ None
     → Fine s (record { at = (current_of s.sections).size + n; progress = added n p s })
-added_fine n p s c e b may h =
-    let made : (added n p s).standing.sections ≡ with_part n p s.sections = put_made n p s h in
+added_fine n p s sort c e b may h =
+    let made : (added n p s).standing.sections ≡ with_part n p s.sections = ap (λ (t : Standing). t.sections) (put_made n p s h) in
+    let x : Section Fixup = current_of s.sections in
+    let size : (longer n p x).size ≡ x.size + n = ap (λ (y : Section Fixup). y.size) (longer_relative n p x (put_relative n p s sort h)) in
     record {
       goes = subst (λ (x : Sections Fixup). Step s.sections x) (sym made) (part_step n p s.sections c e b may);
-      at = sym (ap (λ (x : Sections Fixup). (current_of x).size) made ∙ ap (λ x. x.size) (get_or-set_same s.sections.all s.sections.current (longer n p (current_of s.sections)) unnamed c.current));
+      at = sym (ap (λ (x : Sections Fixup). (current_of x).size) made ∙ ap (λ x. x.size) (get_or-set_same s.sections.all s.sections.current (longer n p (current_of s.sections)) unnamed c.current) ∙ size);
     }
 
 fixed_fine : (site : Site) (kind : OperandKind) (o : Operand) (filling : Filling) (at : ℕ) (s : Standing) (f : Option FaultKind) → IsKind kind → may_stand kind o ≡ true → IsCounted s → at ≡ (current_of s.sections).size → (fixed site kind o filling at s f).fault ≡ None
     → Fine s (record { at = at + operand_length kind o; progress = fixed site kind o filling at s f })
 fixed_fine site kind o filling at s None k may c e h =
-    let fine = added_fine (operand_length kind o) (Kept (fixup_at site kind o filling at)) s c (operand_is_long kind o 0) e (k, may) h in
+    let fine = added_fine (operand_length kind o) (Kept (fixup_at site kind o filling at)) s tt c (operand_is_long kind o 0) e (k, may) h in
     record { goes = fine.goes; at = ap (λ (n : ℕ). n + operand_length kind o) e ∙ fine.at }
 fixed_fine site kind o filling at s (Some f) k may c e h = cc
 
@@ -141,7 +133,7 @@ instruction_goes row origin line tokens s t formed c e =
     let count : length (parts tokens) ≡ row.count = grind (arith, nat_tests, counted.0) in
     let are : AreKinds (parts tokens) row.operands = kinds_of (parts tokens) row.operands (omega (arith, formed.count, formed.places, count)) (λ k d less. formed.kinds k d (omega arith)) in
     let stated = done_ok last.progress.fault last.progress.standing t counted.1 in
-    let begun : Fine s first = added_fine 1 (Bytes (row.code ∷ [])) s c refl tt tt (none_before site (parts tokens) row.operands first stated.0) in
+    let begun : Fine s first = added_fine 1 (Bytes (row.code ∷ [])) s tt c refl tt tt (none_before site (parts tokens) row.operands first stated.0) in
     let fine : Fine s last = operands_fine site (parts tokens) row.operands s first are begun stated.0 in
     subst (λ (x : Standing). Goes s x) stated.1 fine.goes
 

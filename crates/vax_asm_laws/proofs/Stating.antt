@@ -13,9 +13,11 @@ use Rattle.vax_lex.specs.declared.token.Token.{Token}
 use Rattle.vax_macro.specs.declared.error.FaultKind.{FaultKind}
 use Rattle.vax_macro.specs.declared.error.FaultKind.TheVariants as fault
 use Rattle.vax_asm_labels.specs.Naming.{Assigned, label_stated}
+use Rattle.vax_asm_names.specs.declared.types.Linkage.TheVariants as links
 use Rattle.vax_asm_first.specs.Fixups.{Assignment as Waiting}
 use Rattle.vax_asm_first.specs.Standing.{Standing}
 use Rattle.vax_asm_first.specs.declared.types.Origin.{Origin}
+use Rattle.vax_asm_statement.specs.Parts.{parts}
 use Rattle.vax_asm_statement.specs.Reading.{Parsed, What, Nothing, Assignment, Operation, Malformed, parsed}
 use Rattle.vax_asm_statement.specs.declared.directives.Directive.{Directive}
 use Rattle.vax_asm_statement.specs.declared.directives.Directive.TheVariants as directive
@@ -24,6 +26,7 @@ use Rattle.vax_asm_laws.proofs.Counting.{step_then}
 use Rattle.vax_asm_laws.proofs.Data.{Goes, IsCounted, addresses_go, align_goes, data_goes, even_goes, odd_goes, space_goes, text_goes}
 use Rattle.vax_asm_laws.proofs.Naming.{assignment_goes, default_goes, end_goes, entry_goes, functions_go, label_goes, names_go, restored_goes, same_goes, saved_goes, section_goes}
 use Rattle.vax_asm_laws.proofs.Operands.{instruction_goes, reference_goes}
+use Rattle.vax_asm_laws.proofs.Typing.{types_go}
 
 directed_goes : (d : Directive) (origin : Origin) (line : List ℕ) (tokens : List Token) (s t : Standing) → IsCounted s → directed d origin line tokens s ≡ Ok t → Goes s t
 directed_goes directive.Section origin line tokens s t c e = section_goes line tokens s t c e
@@ -39,14 +42,17 @@ directed_goes (directive.Reference size) origin line tokens s t c e = reference_
 directed_goes directive.Align origin line tokens s t c e = align_goes origin line tokens s t c e
 directed_goes directive.Even origin line tokens s t c e = even_goes tokens s t c e
 directed_goes directive.Odd origin line tokens s t c e = odd_goes tokens s t c e
-directed_goes directive.Global origin line tokens s t c e = names_go true line tokens s t c e
-directed_goes directive.External origin line tokens s t c e = names_go false line tokens s t c e
+directed_goes directive.Global origin line tokens s t c e = names_go links.Global line tokens s t c e
+directed_goes directive.Weak origin line tokens s t c e = names_go links.Weak line tokens s t c e
+directed_goes directive.External origin line tokens s t c e = names_go links.External line tokens s t c e
 directed_goes directive.Enable origin line tokens s t c e = functions_go true line tokens s t c e
 directed_goes directive.Disable origin line tokens s t c e = functions_go false line tokens s t c e
 directed_goes directive.Default origin line tokens s t c e = default_goes line tokens s t c e
 directed_goes directive.Save origin line tokens s t c e = saved_goes line tokens s t c e
 directed_goes directive.Restore origin line tokens s t c e = restored_goes tokens s t c e
 directed_goes directive.Listing origin line tokens s t c e = same_goes s t s c refl e
+directed_goes directive.OperandType origin line tokens s t c e = types_go origin line (parts tokens) s t c e
+directed_goes directive.Error origin line tokens s t c e = absurd cc
 directed_goes directive.End origin line tokens s t c e = end_goes line tokens s t c e
 
 instructed_goes : (o : Option Instruction) (origin : Origin) (line : List ℕ) (tokens : List Token) (s t : Standing) → IfSome o (λ i. IsFormed (row_of i)) → IsCounted s → instructed o origin line tokens s ≡ Ok t → Goes s t

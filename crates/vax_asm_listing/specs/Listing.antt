@@ -97,12 +97,15 @@ pub record Placing : Type 0 where
   pub areas : List Area
   pub places : List ℕ
 
+-- An absolute section is at address 0, and has no bytes.
 abbrev pub address_of : Placing → Row → ℕ
-address_of p row = (slice_index p.places row.section + row.begin) % 2 ^ 32
+address_of p row = if row.absolute then row.begin else (slice_index p.places row.section + row.begin) % 2 ^ 32
+
+abbrev pub bytes_of : Placing → Row → List ℕ
+bytes_of p row = if row.absolute then [] else bytes_at (address_of p row) (row.end - row.begin) p.areas
 
 abbrev pub row_lines : Placing → Option ℕ → Row → List ℕ
-row_lines p number row =
-    statement_lines number (address_of p row) (bytes_at (address_of p row) (row.end - row.begin) p.areas) row.text
+row_lines p number row = statement_lines number (address_of p row) (bytes_of p row) row.text
 
 abbrev pub is_of : ℕ → Row → Bool
 is_of number row = row.origin.line == number

@@ -25,7 +25,7 @@ pub fn all_rows_are_listed()
 {}
 
 /// The statements of rows are those of which `vax_asm_laws` speaks: where they have led to a row's beginning, there begin in the module the bytes that
-/// its statement and those behind it put there.
+/// its statement and those behind it put there. A row of an absolute section has no bytes.
 pub fn rows_are_statements()
     ensures { (a : Assembly) → (rows : List Row) → (b : Assembly) → LeadAll a rows b →
         laws.Leads a (map line_of rows) b }

@@ -75,12 +75,27 @@ impl Placing<'_> {
         }
     }
 
-    /// Where a statement lies.
+    /// Where a statement lies: in an absolute section, which is at address 0, what it has counted.
     fn address(self, row: &Row) -> u32
         ensures { result ≡ spec.address_of (placing_of self.entry) row.now }
     {
-        self.place(row.section).wrapping_add(row.begin)
+        if row.absolute {
+            row.begin
+        } else {
+            self.place(row.section).wrapping_add(row.begin)
+        }
     }
+}
+
+/// The bytes of a statement; in an absolute section it has none.
+fn bytes_of<'a>(placing: Placing<'a>, row: &Row) -> &'a [u8]
+    ensures { result.now ≡ spec.bytes_of (placing_of placing.entry) row.now }
+{
+    if row.absolute {
+        return &[];
+    }
+    let addr = placing.address(row);
+    bytes_at(placing.areas, addr, row.end.saturating_sub(row.begin))
 }
 
 /// How much further in a statement's text stands.
@@ -106,7 +121,7 @@ fn push_row(
         ≡ out.old.items ++ spec.row_lines (placing_of placing.entry) number row.now) }
 {
     let addr = placing.address(row);
-    let bytes = bytes_at(placing.areas, addr, row.end.saturating_sub(row.begin));
+    let bytes = bytes_of(placing, row);
     let column = column(bytes);
     push_head(out, number)?;
     out.push(b' ')?;
@@ -141,7 +156,8 @@ fn push_own<'a>(
     rows: &'a [Row],
 ) -> Result<&'a [Row], AllocError>
     ensures text { OnOk result (out.new.items
-        ≡ out.old.items ++ spec.own_lines (placing_of placing.entry) number text.now rows.entry.now) }
+        ≡ out.old.items
+        ++ spec.own_lines (placing_of placing.entry) number text.now rows.entry.now) }
     ensures left { IfOk result (λ r. r.now ≡ spec.own_left number text.now rows.entry.now) }
 {
     if let Some((row, others)) = rows.split_first() {
@@ -187,7 +203,8 @@ fn push_line<'a>(
     rows: &'a [Row],
 ) -> Result<&'a [Row], AllocError>
     ensures text { OnOk result (out.new.items
-        ≡ out.old.items ++ spec.line_lines (placing_of placing.entry) number text.now rows.entry.now) }
+        ≡ out.old.items
+        ++ spec.line_lines (placing_of placing.entry) number text.now rows.entry.now) }
     ensures left { IfOk result (λ r. r.now ≡ spec.line_left number text.now rows.entry.now) }
 {
     let left = push_own(out, placing, number, text, rows)?;
@@ -203,7 +220,8 @@ pub(crate) fn push_source(
     rows: &[Row],
 ) -> Result<(), AllocError>
     ensures { OnOk result (out.new.items
-        ≡ out.old.items ++ spec.source_lines (placing_of placing.entry) 0 (lines source.now) rows.now) }
+        ≡ out.old.items
+        ++ spec.source_lines (placing_of placing.entry) 0 (lines source.now) rows.now) }
 {
     let mut number = 0;
     let mut rest = source;

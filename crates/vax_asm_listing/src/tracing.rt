@@ -30,7 +30,8 @@ fn point_of(standing: &Standing) -> Point
 {
     Point {
         section: standing.layout.number(),
-        offset: standing.section_size(),
+        offset: standing.place(),
+        absolute: standing.in_absolute(),
     }
 }
 
@@ -48,6 +49,7 @@ fn row_of(origin: Origin, text: Bytes, before: Point, after: Point) -> Row
             after.offset
         },
         end: after.offset,
+        absolute: after.absolute,
     }
 }
 

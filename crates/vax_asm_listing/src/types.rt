@@ -5,14 +5,16 @@ use vax_lex::Value;
 use vax_module::{Bytes, Module};
 use vax_space::Area;
 
-/// A place in a module: a section, by its number, and an offset in bytes.
+/// A place in a module: a section, by its number, an offset in bytes, and whether the section is absolute.
 #[derive(Clone, Copy, PartialEq, Eq)]
 pub struct Point {
     pub section: usize,
     pub offset: u32,
+    pub absolute: bool,
 }
 
-/// A statement, and where its bytes lie: in this section of its module, from one offset up to another.
+/// A statement, and where its bytes lie: in this section of its module, from one offset up to another. In an absolute section it has no
+/// bytes: it counts from the one number to the other.
 #[derive(Drop)]
 pub struct Row {
     pub origin: Origin,
@@ -20,6 +22,7 @@ pub struct Row {
     pub section: usize,
     pub begin: u32,
     pub end: u32,
+    pub absolute: bool,
 }
 
 /// A name of a module, which is no local label: in capitals, whether other modules may use it, and what it is worth. A name without a value

@@ -14,6 +14,7 @@ use Rattle.vax_asm_names.specs.Names as specs
 use Rattle.vax_asm_names.specs.Names.{no_locals}
 use Rattle.vax_asm_names.specs.View.{name_of, Becomes, Leaves}
 use Rattle.vax_asm_names.specs.declared.types.Duplicate.{Duplicate}
+use Rattle.vax_asm_names.specs.declared.types.Linkage.{Linkage}
 use Rattle.vax_asm_names.specs.declared.types.Local.{Local}
 use Rattle.vax_asm_names.specs.declared.types.Name.{Name}
 
@@ -57,7 +58,7 @@ numbered_as_before f xs ys e h = let Q : List Name → Type 0 = λ zs. (t : List
 
 -- a name is seen, and one of many becomes another
 pub name_seen : (xs : List Name) (i : ℕ) (d : Name) → i < length (map name_of xs) → specs.name_at (map name_of xs) i ≡ name_of (slice_index_or xs i d)
-name_seen xs i d h = get_or-map name_of xs i d (specs.first_seen [] 0) (subst (λ n. i < n) (length-map xs name_of) h)
+name_seen xs i d h = get_or-map name_of xs i d (specs.first_seen true [] 0) (subst (λ n. i < n) (length-map xs name_of) h)
 
 pub one_becomes : (r : Result Unit Duplicate) (s : specs.Names) (xs : List Name) (i : ℕ) (x b : Name) (f : specs.Name → Result specs.Name Duplicate) → i < length (map name_of xs) → x ≡ slice_index_or xs i x
     → Becomes r (name_of x) (name_of b) (f (name_of x))
@@ -71,11 +72,11 @@ one_becomes (Err u) s xs i x b f h is e = (
   ap (λ (l : List specs.Name). record s { all = l }) (map-set_same name_of xs i b x (e.1 ∙ ap name_of is)),
 )
 
-pub one_is_global : (s : specs.Names) (xs : List Name) (i : ℕ) (x b : Name) → i < length (map name_of xs) → x ≡ slice_index_or xs i x → name_of b ≡ specs.made_global (name_of x)
-    → record s { all = map name_of (slice_set xs i b) } ≡ specs.with_change i (record s { all = map name_of xs }) (specs.made_global (specs.name_at (map name_of xs) i))
-one_is_global s xs i x b h is e =
+pub one_is_linked : (linkage : Linkage) (s : specs.Names) (xs : List Name) (i : ℕ) (x b : Name) → i < length (map name_of xs) → x ≡ slice_index_or xs i x → name_of b ≡ specs.linked linkage (name_of x)
+    → record s { all = map name_of (slice_set xs i b) } ≡ specs.with_change i (record s { all = map name_of xs }) (specs.linked linkage (specs.name_at (map name_of xs) i))
+one_is_linked linkage s xs i x b h is e =
     ap (λ (l : List specs.Name). record s { all = l })
-    (map-set name_of xs i b ∙ ap (slice_set (map name_of xs) i) (e ∙ ap specs.made_global (ap name_of is ∙ sym (name_seen xs i x h))))
+    (map-set name_of xs i b ∙ ap (slice_set (map name_of xs) i) (e ∙ ap (specs.linked linkage) (ap name_of is ∙ sym (name_seen xs i x h))))
 
 -- one more block of local labels
 pub block_added : (xs : List Block) (b : Block) → b.entries ≡ [] → map by_name (xs ++ b ∷ []) ≡ map by_name xs ++ no_locals ∷ []

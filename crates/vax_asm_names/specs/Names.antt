@@ -5,42 +5,48 @@ use Rattle.vax_asm_names.specs.ByName.{with_entry}
 use Rattle.vax_asm_names.specs.declared.types.DefinedBy.{DefinedBy}
 use Rattle.vax_asm_names.specs.declared.types.DefinedBy.TheVariants.{Nothing, Label, Assignment}
 use Rattle.vax_asm_names.specs.declared.types.Duplicate.{Duplicate}
+use Rattle.vax_asm_names.specs.declared.types.Linkage.{Linkage}
+use Rattle.vax_asm_names.specs.declared.types.Linkage.TheVariants as linkage
 use Rattle.vax_asm_names.specs.declared.types.Local.{Local}
 
 -- A name that appeared: the definition that a use means, by its number, which is the last one so far, else the first to
--- come; what has defined it so far; and whether other modules may use it.
+-- come; what has defined it so far; whether other modules may use it; whether another one may define it; and
+-- whether its value is 0 where none does.
 pub record Name : Type 0 where
   pub text : List ℕ
   pub definition : ℕ
   pub defined_by : DefinedBy
   pub global : Bool
+  pub external : Bool
+  pub weak : Bool
 
 -- the local labels of a block that has none yet
 abbrev pub no_locals : List ℕ → Option Local
 no_locals text = None
 
 -- The number of each name; the names in the order in which they first appeared; the blocks of local labels so far, each with its local
--- labels; and which of them is the current one.
+-- labels; which of them is the current one; and whether another module may define a name that appears from here on.
 pub record Names : Type 0 where
   pub numbers : List ℕ → Option ℕ
   pub all : List Name
   pub blocks : List (List ℕ → Option Local)
   pub block : ℕ
+  pub assumes_external : Bool
 
 abbrev pub no_names : Names
-no_names = record { numbers = λ text. None; all = []; blocks = no_locals ∷ []; block = 0 }
+no_names = record { numbers = λ text. None; all = []; blocks = no_locals ∷ []; block = 0; assumes_external = true }
 
 -- the local labels of the current block
 abbrev pub locals_of : Names → List ℕ → Option Local
 locals_of n = slice_index_or n.blocks n.block no_locals
 
 -- A name appears for the first time. Its first definition, which is to come, has this number.
-abbrev pub first_seen : List ℕ → ℕ → Name
-first_seen text definition = record { text = text; definition = definition; defined_by = Nothing; global = false }
+abbrev pub first_seen : Bool → List ℕ → ℕ → Name
+first_seen external text definition = record { text = text; definition = definition; defined_by = Nothing; global = false; external = external; weak = false }
 
 abbrev pub with_name : List ℕ → ℕ → Names → Names
 with_name text definition n =
-    record n { numbers = with_entry text (Some (length n.all)) n.numbers; all = n.all ++ first_seen text definition ∷ [] }
+    record n { numbers = with_entry text (Some (length n.all)) n.numbers; all = n.all ++ first_seen n.assumes_external text definition ∷ [] }
 
 -- A label defines a name that nothing has defined.
 abbrev pub labelled : Name → Result Name Duplicate
@@ -59,12 +65,19 @@ assigned fresh name = elim name.defined_by [
   | Assignment ↦ Ok (record name { definition = fresh })
 ]
 
-abbrev pub made_global : Name → Name
-made_global name = record name { global = true }
+-- What the module says of a name to others. That stays, whatever is said besides.
+abbrev pub linked : Linkage → Name → Name
+linked linkage.External name = record name { external = true }
+linked linkage.Global name = record name { external = true; global = true }
+linked linkage.Weak name = record name { external = true; global = true; weak = true }
+
+-- whether another module may define a name that appears from here on, where nothing more is said of it
+abbrev pub assuming : Bool → Names → Names
+assuming assumes n = record n { assumes_external = assumes }
 
 -- one of the names is another
 abbrev pub name_at : List Name → ℕ → Name
-name_at names i = slice_index_or names i (first_seen [] 0)
+name_at names i = slice_index_or names i (first_seen true [] 0)
 
 abbrev pub with_change : ℕ → Names → Name → Names
 with_change i n name = record n { all = slice_set n.all i name }

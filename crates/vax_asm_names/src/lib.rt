@@ -9,4 +9,4 @@
 mod table;
 mod types;
 
-pub use types::{DefinedBy, Duplicate, LabelError, Local, Name, NameTable};
+pub use types::{DefinedBy, Duplicate, LabelError, Linkage, Local, Name, NameTable};

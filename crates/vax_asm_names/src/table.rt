@@ -2,11 +2,11 @@
 
 ghost use Rattle.std.specs.Prelude.{◌≡◌, ◌<◌, ◌+◌, ◌++◌, ◌∷◌, [], Some, IfOk, OnOk, OnErr, IfSome, length, map};
 ghost use Rattle.vax_asm_names.specs.ByName.{by_name, with_entry};
-ghost use Rattle.vax_asm_names.specs.Names.{no_locals, no_names, with_name, labelled, assigned, made_global, name_at, with_change, changed, used_locally, labelled_locally, locals_of, with_local, in_next_block, in_block};
+ghost use Rattle.vax_asm_names.specs.Names.{no_locals, no_names, with_name, labelled, assigned, assuming, linked, name_at, with_change, changed, used_locally, labelled_locally, locals_of, with_local, in_next_block, in_block};
 ghost use Rattle.vax_asm_names.specs.View.{name_of, names_of, Alters, Becomes, Labels};
 ghost use Rattle.vax_asm_names.specs.Names.{with_use};
 
-use crate::types::{DefinedBy, Duplicate, LabelError, Local, Name, NameTable};
+use crate::types::{DefinedBy, Duplicate, LabelError, Linkage, Local, Name, NameTable};
 use std::alloc::Global;
 use std::collections::BTreeMap;
 use vax_space::NoMemory;
@@ -103,10 +103,18 @@ impl Name {
         }
     }
 
-    fn make_global(&mut self)
-        ensures { name_of self.new ≡ made_global (name_of self.old) }
+    fn link(&mut self, linkage: Linkage)
+        ensures { name_of self.new ≡ linked linkage (name_of self.old) }
     {
-        self.global = true;
+        self.external = true;
+        match linkage {
+            Linkage::External => {}
+            Linkage::Global => self.global = true,
+            Linkage::Weak => {
+                self.global = true;
+                self.weak = true;
+            }
+        }
     }
 }
 
@@ -122,6 +130,7 @@ impl NameTable {
             first_block: BTreeMap::new(alloc),
             further_blocks: Vec::new(alloc),
             block: 0,
+            assumes_external: true,
         }
     }
 
@@ -154,6 +163,8 @@ impl NameTable {
             definition,
             defined_by: DefinedBy::Nothing,
             global: false,
+            external: self.assumes_external,
+            weak: false,
         };
         let number = self.names.len();
         add_last(&mut self.names, name)?;
@@ -186,14 +197,23 @@ impl NameTable {
         self.names[number].assign(fresh)
     }
 
-    /// Other modules may use a name.
-    #[tactic(auto, using(crate::proofs::Changing::one_is_global))]
-    pub fn make_global(&mut self, number: usize)
+    /// The module says of a name that other modules may use it, or that one of them may define it, or need not. What it has
+    /// said before stays.
+    #[tactic(auto, using(crate::proofs::Changing::one_is_linked))]
+    pub fn link(&mut self, number: usize, linkage: Linkage)
         requires { number < length (names_of self.old).all }
         ensures { names_of self.new ≡ with_change number (names_of self.old)
-            (made_global (name_at (names_of self.old).all number)) }
+            (linked linkage (name_at (names_of self.old).all number)) }
     {
-        self.names[number].make_global();
+        self.names[number].link(linkage);
+    }
+
+    /// Whether another module may define a name that appears from here on, where nothing more is said of it. At the start
+    /// it may.
+    pub fn assume_external(&mut self, assumes: bool)
+        ensures { names_of self.new ≡ assuming assumes (names_of self.old) }
+    {
+        self.assumes_external = assumes;
     }
 
     /// The local labels of the current block.

@@ -15,6 +15,17 @@ pub enum DefinedBy {
     Assignment,
 }
 
+/// What a module says of a name to other modules.
+#[derive(Clone, Copy, PartialEq, Eq)]
+pub enum Linkage {
+    /// Another module may define it.
+    External,
+    /// Other modules may use it, or one of them may define it.
+    Global,
+    /// The same, and where no module defines it, its value is 0.
+    Weak,
+}
+
 /// A name that appeared.
 #[derive(Drop)]
 pub struct Name {
@@ -25,6 +36,10 @@ pub struct Name {
     pub defined_by: DefinedBy,
     /// Whether other modules may use it.
     pub global: bool,
+    /// Whether another module may define it.
+    pub external: bool,
+    /// Whether its value is 0 where no module defines it.
+    pub weak: bool,
 }
 
 /// A local label of the block.
@@ -59,6 +74,8 @@ pub struct NameTable {
     pub(crate) further_blocks: Vec<BTreeMap<Vec<u8>, Local>>,
     /// The number of the current block, from 0.
     pub(crate) block: usize,
+    /// Whether another module may define a name that appears from here on.
+    pub(crate) assumes_external: bool,
     pub ghost in_range: { (text : List ℕ) → ForSome (by_name numbers text) (λ i. i < length names.items) },
     pub ghost in_block: { block ≤ length further_blocks.items },
 }

@@ -10,6 +10,7 @@ use vax_asm_first::{
     Assignment, Content, FaultKind, Filling, Fixup, Origin, Refused, Standing, first_circle,
 };
 use vax_asm_labels::*;
+use vax_asm_scope::Linkage;
 use vax_asm_sections::Piece;
 use vax_asm_statement::Label;
 use vax_dialect::Dialect;
@@ -26,7 +27,7 @@ enum Kind {
     Assignment { global: bool },
     Section,
     Entry,
-    Names { global: bool },
+    Names(Linkage),
     End,
 }
 
@@ -36,9 +37,9 @@ const GLOBAL_LABEL: Kind = Kind::Label { global: true };
 
 const ASSIGNMENT: Kind = Kind::Assignment { global: false };
 
-const GLOBALS: Kind = Kind::Names { global: true };
+const GLOBALS: Kind = Kind::Names(Linkage::Global);
 
-const EXTERNALS: Kind = Kind::Names { global: false };
+const EXTERNALS: Kind = Kind::Names(Linkage::External);
 
 /// A statement is carried out. Its name, if it begins with one, is the first token, and `=` or `==` stands behind it.
 fn stated_behind(
@@ -81,7 +82,7 @@ fn stated_behind(
         }
         Kind::Section => section(standing, alloc, &line, operands),
         Kind::Entry => entry(standing, alloc, ORIGIN, &line, operands),
-        Kind::Names { global } => names(standing, alloc, &line, global, operands),
+        Kind::Names(linkage) => names(standing, alloc, &line, linkage, operands),
         Kind::End => end(standing, alloc, &line, operands),
     };
     Ok(done)

@@ -12,10 +12,43 @@ fn numbers_names_as_they_appear(rt: HostRuntime) -> Result<(), Fail> {
     assert!(rt; table.number(b"START") == Some(0));
     assert!(rt; table.number(b"COUNT") == Some(1));
     assert!(rt; table.number(b"STAR") == None);
-    table.make_global(1);
+    table.link(1, Linkage::Global);
     assert!(rt; !table.names()[0].global);
     assert!(rt; table.names()[1].global);
     assert!(rt; table.names()[1].text.as_slice() == b"COUNT".as_slice());
+    Ok(())
+}
+
+#[test]
+fn knows_what_another_module_may_define(rt: HostRuntime) -> Result<(), Fail> {
+    let alloc = rt.alloc();
+    let mut table = NameTable::new(alloc);
+    table.add(alloc, b"BEFORE", 0)?;
+    table.assume_external(false);
+    table.add(alloc, b"NONE", 1)?;
+    table.add(alloc, b"OTHER", 2)?;
+    table.add(alloc, b"OWN", 3)?;
+    table.link(2, Linkage::External);
+    table.link(3, Linkage::Global);
+    table.assume_external(true);
+    table.add(alloc, b"BEHIND", 4)?;
+    // What is said of a name stays.
+    table.add(alloc, b"WEAK", 5)?;
+    table.link(5, Linkage::Weak);
+    table.link(5, Linkage::External);
+    let may: [(bool, bool, bool); 6] = [
+        (true, false, false),
+        (false, false, false),
+        (true, false, false),
+        (true, true, false),
+        (true, false, false),
+        (true, true, true),
+    ];
+    for (name, (external, global, weak)) in table.names().iter().zip(may) {
+        assert!(rt; name.external == external);
+        assert!(rt; name.global == global);
+        assert!(rt; name.weak == weak);
+    }
     Ok(())
 }
 

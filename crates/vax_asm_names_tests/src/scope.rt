@@ -108,7 +108,7 @@ fn local_labels_stay_in_their_block(rt: HostRuntime) -> Result<(), Fail> {
 fn what_nothing_defines_is_external(rt: HostRuntime) -> Result<(), Fail> {
     let alloc = rt.alloc();
     let mut scope = Scope::new(alloc);
-    scope.make_global(alloc, b"FIRST")?;
+    scope.link(alloc, b"FIRST", Linkage::Global)?;
     scope.label(alloc, b"HOME", HERE)?;
     let begin = scope.appear(alloc, b"BEGIN")?;
     let other = stands(alloc, &mut scope, b"BEGIN+2")?;
@@ -123,6 +123,33 @@ fn what_nothing_defines_is_external(rt: HostRuntime) -> Result<(), Fail> {
     };
     assert!(rt; scope.evaluate(&other) == Ok(target));
     assert!(rt; scope.names()[0].global);
+    Ok(())
+}
+
+#[test]
+fn what_no_module_may_define_stays_unknown(rt: HostRuntime) -> Result<(), Fail> {
+    let alloc = rt.alloc();
+    let mut scope = Scope::new(alloc);
+    scope.assume_external(alloc, false);
+    let lost = stands(alloc, &mut scope, b"LOST")?;
+    let other = stands(alloc, &mut scope, b"OTHER+2")?;
+    let later = stands(alloc, &mut scope, b"LATER")?;
+    assert!(rt; scope.misses(b"LOST"));
+    assert!(rt; !scope.misses(b"NOWHERE"));
+    scope.link(alloc, b"OTHER", Linkage::External)?;
+    scope.label(alloc, b"LATER", HERE)?;
+    assert!(rt; !scope.misses(b"OTHER"));
+    assert!(rt; !scope.misses(b"LATER"));
+    let externals = scope.close(alloc)?;
+    assert!(rt; externals.len() == 1);
+    let target = Value::External {
+        index: 0,
+        offset: 2,
+    };
+    assert!(rt; scope.evaluate(&other) == Ok(target));
+    assert!(rt; scope.evaluate(&later) == Ok(HERE));
+    assert!(rt; scope.evaluate(&lost) == Err(ExprError::Unknown));
+    assert!(rt; scope.names_to_come(&lost));
     Ok(())
 }
 

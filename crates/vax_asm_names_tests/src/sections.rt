@@ -5,6 +5,7 @@ use vax_asm_sections::*;
 const NOTHING_SAID: Attributes = Attributes {
     align: None,
     write: None,
+    absolute: None,
 };
 
 #[test]
@@ -15,6 +16,7 @@ fn builds_sections(rt: HostRuntime) -> Result<(), Fail> {
     let code = Attributes {
         align: Some(2),
         write: Some(false),
+        absolute: None,
     };
     layout.select(alloc, b"CODE", code)?;
     assert!(rt; layout.number() == 1);
@@ -30,6 +32,7 @@ fn builds_sections(rt: HostRuntime) -> Result<(), Fail> {
     let other = Attributes {
         align: Some(3),
         write: None,
+        absolute: None,
     };
     assert!(rt; layout.select(alloc, b"CODE", other) == Err(Refusal::Conflict));
     layout.select(alloc, b"CODE", NOTHING_SAID)?;
@@ -63,5 +66,41 @@ fn refuses_what_is_too_long(rt: HostRuntime) -> Result<(), Fail> {
     assert!(rt; layout.put(1, Piece::Zeros(1)) == Err(Refusal::TooLong));
     assert!(rt; layout.align(9) == Ok(()));
     assert!(rt; layout.current().size == 1_048_576);
+    Ok(())
+}
+
+/// An absolute section counts from 0 on. It has no bytes, holds no data and is aligned to nothing.
+#[test]
+fn counts_in_an_absolute_section(rt: HostRuntime) -> Result<(), Fail> {
+    let alloc = rt.alloc();
+    let mut layout: Layout<u8> = Layout::new(alloc)?;
+    let absolute = Attributes {
+        align: Some(2),
+        write: None,
+        absolute: Some(true),
+    };
+    layout.select(alloc, b"OFFSETS", absolute)?;
+    layout.put(5, Piece::Zeros(5))?;
+    assert!(rt; layout.current().place() == 5);
+    layout.align(3)?;
+    assert!(rt; layout.current().place() == 8);
+    assert!(rt; layout.current().size == 0);
+    assert!(rt; layout.current().align == 0);
+    assert!(rt; layout.current().pieces.is_empty());
+    assert!(rt; layout.put(1, Piece::Field(7)) == Err(Refusal::Absolute));
+    let empty = Piece::Bytes(b"".to_vec(alloc)?);
+    assert!(rt; layout.put(0, empty) == Err(Refusal::Absolute));
+    layout.select(alloc, b"", NOTHING_SAID)?;
+    assert!(rt; layout.current().place() == 0);
+    layout.select(alloc, b"OFFSETS", NOTHING_SAID)?;
+    assert!(rt; layout.current().place() == 8);
+    let relative = Attributes {
+        align: None,
+        write: None,
+        absolute: Some(false),
+    };
+    assert!(rt; layout.select(alloc, b"OFFSETS", relative) == Err(Refusal::Conflict));
+    layout.select(alloc, b"DATA", relative)?;
+    assert!(rt; layout.select(alloc, b"DATA", absolute) == Err(Refusal::Conflict));
     Ok(())
 }

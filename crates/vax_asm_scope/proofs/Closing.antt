@@ -6,7 +6,7 @@ use Rattle.vax_lex.specs.declared.value.Value.TheVariants.{External}
 use Rattle.vax_asm_names.specs.Names as table
 use Rattle.vax_asm_names.specs.View.{name_of}
 use Rattle.vax_asm_names.specs.declared.types.Name.{Name}
-use Rattle.vax_asm_scope.specs.Scope.{is_undefined, external_names, with_externals}
+use Rattle.vax_asm_scope.specs.Scope.{is_external, external_names, with_externals}
 use Rattle.vax_asm_values.specs.Values.{Source, Given, with_source}
 
 either_name : (b : Bool) (text : List ℕ) (rest : List (List ℕ)) → (if b then text ∷ rest else rest) ≡ (if b then text ∷ [] else []) ++ rest
@@ -14,7 +14,7 @@ either_name true text rest = refl
 either_name false text rest = refl
 
 names_more : (x : table.Name) (xs : List table.Name) → external_names (x ∷ xs) ≡ external_names (x ∷ []) ++ external_names xs
-names_more x xs = either_name (is_undefined x) x.text (external_names xs)
+names_more x xs = either_name (is_external x) x.text (external_names xs)
 
 either_source : (b : Bool) (text : List ℕ) (k : ℕ) (xs : List table.Name) (given old : List Source)
     → (if b then with_externals (k + 1) xs given else with_externals k xs old) ≡ with_externals (k + length (if b then text ∷ [] else [])) xs (if b then given else old)
@@ -22,7 +22,7 @@ either_source true text k xs given old = refl
 either_source false text k xs given old = ap (λ (n : ℕ). with_externals n xs old) (omega arith)
 
 sources_more : (k : ℕ) (x : table.Name) (xs : List table.Name) (s : List Source) → with_externals k (x ∷ xs) s ≡ with_externals (k + length (external_names (x ∷ []))) xs (with_externals k (x ∷ []) s)
-sources_more k x xs s = either_source (is_undefined x) x.text k xs (with_source x.definition (Given (External k (pos 0))) s) s
+sources_more k x xs s = either_source (is_external x) x.text k xs (with_source x.definition (Given (External k (pos 0))) s) s
 
 split_at : (names : List Name) (i : ℕ) (n : Name) → i < length names → n ≡ slice_index_or names i n → map name_of (drop i names) ≡ name_of n ∷ map name_of (drop (i + 1) names)
 split_at names i n h at =

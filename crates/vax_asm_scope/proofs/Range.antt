@@ -14,10 +14,12 @@ use Rattle.vax_asm_names.specs.Names as table
 use Rattle.vax_asm_names.specs.declared.types.DefinedBy.{DefinedBy}
 use Rattle.vax_asm_names.specs.declared.types.DefinedBy.TheVariants.{Nothing, Label, Assignment}
 use Rattle.vax_asm_names.specs.declared.types.Duplicate.{Duplicate}
+use Rattle.vax_asm_names.specs.declared.types.Linkage.{Linkage}
+use Rattle.vax_asm_names.specs.declared.types.Linkage.TheVariants as links
 use Rattle.vax_asm_names.specs.declared.types.Local.{Local}
 use Rattle.vax_asm_values.specs.Values.{Meaning, Written, Source, ToCome, Given, with_source, worth, value_of, is_to_come, source_at}
 use Rattle.vax_asm_scope.specs.Used.{at_term, used}
-use Rattle.vax_asm_scope.specs.Scope.{Scope, is_local, entry_by, entry, Meant, mean_here, mean_local, mean_name, mean, Bound, bind, bind_all, renamed, InRange, AreIn, IsInRange, opened_if_fresh, assign_to, local_by, labelled, kept, assigned, labelled_locally, begun_block, in_block, made_global, nothing, bound, is_undefined, with_externals, closed}
+use Rattle.vax_asm_scope.specs.Scope.{Scope, is_local, entry_by, entry, Meant, mean_here, mean_local, mean_name, mean, Bound, bind, bind_all, renamed, InRange, AreIn, IsInRange, opened_if_fresh, assign_to, local_by, labelled, kept, assigned, labelled_locally, begun_block, in_block, linked, assuming, nothing, bound, is_external, with_externals, closed}
 
 some_is : {X : Type 0} {x y : X} → Some x ≡ Some y → x ≡ y
 some_is {X} {x} e = ap (λ (o : Option X). elim o [ Some z ↦ z | None ↦ x ]) e
@@ -43,10 +45,10 @@ entry_in false n m i o less h e = h i e
 
 pub name_in : (text : List ℕ) (n : table.Names) (k : ℕ) → InRange n k → InRange (table.with_name text k n) (k + 1)
 name_in text n k r =
-    let longer : length (n.all ++ table.first_seen text k ∷ []) ≡ length n.all + 1 = length_push n.all (table.first_seen text k) in
+    let longer : length (n.all ++ table.first_seen n.assumes_external text k ∷ []) ≡ length n.all + 1 = length_push n.all (table.first_seen n.assumes_external text k) in
     record {
-      numbers = λ t i e. entry_in (bytes_eq text t) (length n.all) (length (n.all ++ table.first_seen text k ∷ [])) i (n.numbers t) (omega (arith, longer)) (λ j f. omega (arith, longer, r.numbers t j f)) e;
-      all = All-push (λ (m : table.Name). m.definition < k + 1) n.all (table.first_seen text k) (λ i d h. omega (arith, r.all i d h)) (omega arith);
+      numbers = λ t i e. entry_in (bytes_eq text t) (length n.all) (length (n.all ++ table.first_seen n.assumes_external text k ∷ [])) i (n.numbers t) (omega (arith, longer)) (λ j f. omega (arith, longer, r.numbers t j f)) e;
+      all = All-push (λ (m : table.Name). m.definition < k + 1) n.all (table.first_seen n.assumes_external text k) (λ i d h. omega (arith, r.all i d h)) (omega arith);
       block = r.block;
       blocks = λ i d h. λ t l e. omega (arith, r.blocks i d h t l e);
     }
@@ -72,11 +74,11 @@ pub entry_range : (text : List ℕ) (s : Scope) (o : Option ℕ) → s.names.num
 entry_range text s (Some i) is r = (r, r.numbers text i is)
 entry_range text s None is r =
     let longer : length (s.sources ++ ToCome ∷ []) ≡ length s.sources + 1 = length_push s.sources ToCome in
-    let names : length (s.names.all ++ table.first_seen text (length s.sources) ∷ []) ≡ length s.names.all + 1 = length_push s.names.all (table.first_seen text (length s.sources)) in
+    let names : length (s.names.all ++ table.first_seen s.names.assumes_external text (length s.sources) ∷ []) ≡ length s.names.all + 1 = length_push s.names.all (table.first_seen s.names.assumes_external text (length s.sources)) in
     (rw longer (name_in text s.names (length s.sources) r), omega (arith, names))
 
 pub definition_in : (n : table.Names) (i k : ℕ) → InRange n k → i < length n.all → (table.name_at n.all i).definition < k
-definition_in n i k r h = r.all i (table.first_seen [] 0) h
+definition_in n i k r h = r.all i (table.first_seen true [] 0) h
 
 -- what a name means
 abbrev pub MeansOne : Meant → Type 0
@@ -146,15 +148,15 @@ nothing_bound s r = (r, λ i d h. absurd (omega (arith, h)))
 
 -- names that are defined
 
-labelled_keeps : (text : List ℕ) (d : ℕ) (by : DefinedBy) (g : Bool) (m : table.Name) → table.labelled (record { text = text; definition = d; defined_by = by; global = g }) ≡ Ok m → m.definition ≡ d
-labelled_keeps text d Nothing g m e = cc
-labelled_keeps text d Label g m e = absurd cc
-labelled_keeps text d Assignment g m e = absurd cc
+labelled_keeps : (text : List ℕ) (d : ℕ) (by : DefinedBy) (g x w : Bool) (m : table.Name) → table.labelled (record { text = text; definition = d; defined_by = by; global = g; external = x; weak = w }) ≡ Ok m → m.definition ≡ d
+labelled_keeps text d Nothing g x w m e = cc
+labelled_keeps text d Label g x w m e = absurd cc
+labelled_keeps text d Assignment g x w m e = absurd cc
 
-assigned_keeps : (fresh : ℕ) (text : List ℕ) (d : ℕ) (by : DefinedBy) (g : Bool) (m : table.Name) → table.assigned fresh (record { text = text; definition = d; defined_by = by; global = g }) ≡ Ok m → (m.definition ≡ d) ⊎ (m.definition ≡ fresh)
-assigned_keeps fresh text d Nothing g m e = inl cc
-assigned_keeps fresh text d Label g m e = absurd cc
-assigned_keeps fresh text d Assignment g m e = inr cc
+assigned_keeps : (fresh : ℕ) (text : List ℕ) (d : ℕ) (by : DefinedBy) (g x w : Bool) (m : table.Name) → table.assigned fresh (record { text = text; definition = d; defined_by = by; global = g; external = x; weak = w }) ≡ Ok m → (m.definition ≡ d) ⊎ (m.definition ≡ fresh)
+assigned_keeps fresh text d Nothing g x w m e = inl cc
+assigned_keeps fresh text d Label g x w m e = absurd cc
+assigned_keeps fresh text d Assignment g x w m e = inr cc
 
 change_in : (n : table.Names) (i k : ℕ) (m : table.Name) → InRange n k → m.definition < k → InRange (table.with_change i n m) k
 change_in n i k m r h = record {
@@ -185,7 +187,7 @@ label_in text v s t r e =
     let here : name.definition < length f.scope.sources = definition_in f.scope.names f.number (length f.scope.sources) both.0 both.1 in
     renamed_in (Given v) f.number f.scope.sources (table.changed f.number f.scope.names (table.labelled name)) t
     (λ m is. changed_in f.scope.names f.number (length f.scope.sources) (table.labelled name) m both.0
-    (λ q same. omega (arith, here, labelled_keeps name.text name.definition name.defined_by name.global q same)) is) e
+    (λ q same. omega (arith, here, labelled_keeps name.text name.definition name.defined_by name.global name.external name.weak q same)) is) e
 
 length_opened : (b : Bool) (sources : List Source) → length sources ≤ length (if b then sources ++ ToCome ∷ [] else sources)
 length_opened true sources = omega (arith, length_push sources ToCome)
@@ -221,9 +223,9 @@ assign_in text w s t r e =
     (λ m is.
     let (q, (gives, same)) = changed_is names f.number (table.assigned (length sources) name) m is in
     let P : table.Names → Type 0 = λ x. InRange x (length (opened_if_fresh (table.name_at x.all f.number).definition sources)) in
-    let found : (table.name_at (slice_set names.all f.number q) f.number).definition ≡ q.definition = ap (λ (x : table.Name). x.definition) (get_or-set_same names.all f.number q (table.first_seen [] 0) both.1) in
+    let found : (table.name_at (slice_set names.all f.number q) f.number).definition ≡ q.definition = ap (λ (x : table.Name). x.definition) (get_or-set_same names.all f.number q (table.first_seen true [] 0) both.1) in
     let within : q.definition < length (opened_if_fresh q.definition sources) =
-    assigned_within q.definition (length sources) name.definition sources refl here (assigned_keeps (length sources) name.text name.definition name.defined_by name.global q gives) in
+    assigned_within q.definition (length sources) name.definition sources refl here (assigned_keeps (length sources) name.text name.definition name.defined_by name.global name.external name.weak q gives) in
     let k = length (opened_if_fresh q.definition sources) in
     subst P same (rw found (change_in names f.number k q (range_grows names (length sources) k both.0 (length_opened (q.definition == length sources) sources)) within)))
     e
@@ -270,11 +272,17 @@ back_in_by false i n k r h = r
 pub back_in : (i : ℕ) (s : Scope) → IsInRange s → IsInRange (in_block i s)
 back_in i s r = back_in_by (nat_lt i (length s.names.blocks)) i s.names (length s.sources) r (λ e. grind (arith, nat_tests))
 
-pub global_in : (text : List ℕ) (s : Scope) → IsInRange s → IsInRange (made_global text s)
-global_in text s r =
+same_definition : (linkage : Linkage) (n : table.Name) → n.definition ≡ (table.linked linkage n).definition
+same_definition links.External n = refl
+same_definition links.Global n = refl
+same_definition links.Weak n = refl
+
+pub linked_in : (linkage : Linkage) (text : List ℕ) (s : Scope) → IsInRange s → IsInRange (linked linkage text s)
+linked_in linkage text s r =
     let f = entry text s in
     let both = entry_range text s (s.names.numbers text) refl r in
-    change_in f.scope.names f.number (length f.scope.sources) (table.made_global (table.name_at f.scope.names.all f.number)) both.0 (definition_in f.scope.names f.number (length f.scope.sources) both.0 both.1)
+    change_in f.scope.names f.number (length f.scope.sources) (table.linked linkage (table.name_at f.scope.names.all f.number)) both.0
+    (subst (λ (d : ℕ). d < length f.scope.sources) (same_definition linkage (table.name_at f.scope.names.all f.number)) (definition_in f.scope.names f.number (length f.scope.sources) both.0 both.1))
 
 pub nothing_in : IsInRange nothing
 nothing_in = record {
@@ -294,8 +302,14 @@ block_is_in s t r is = subst IsInRange (sym is) (block_in s r)
 pub back_is_in : (i : ℕ) (s t : Scope) → IsInRange s → t ≡ in_block i s → IsInRange t
 back_is_in i s t r is = subst IsInRange (sym is) (back_in i s r)
 
-pub global_is_in : (text : List ℕ) (s t : Scope) → IsInRange s → t ≡ made_global text s → IsInRange t
-global_is_in text s t r is = subst IsInRange (sym is) (global_in text s r)
+pub linked_is_in : (linkage : Linkage) (text : List ℕ) (s t : Scope) → IsInRange s → t ≡ linked linkage text s → IsInRange t
+linked_is_in linkage text s t r is = subst IsInRange (sym is) (linked_in linkage text s r)
+
+assuming_in : (assumes : Bool) (s : Scope) → IsInRange s → IsInRange (assuming assumes s)
+assuming_in assumes s r = record { numbers = r.numbers; all = r.all; block = r.block; blocks = r.blocks }
+
+pub assuming_is_in : (assumes : Bool) (s t : Scope) → IsInRange s → t ≡ assuming assumes s → IsInRange t
+assuming_is_in assumes s t r is = subst IsInRange (sym is) (assuming_in assumes s r)
 
 bound_all_in : (here : Value) (symbols : List Symbol) (s : Scope) → IsInRange s → BindsAll (bound here symbols s)
 bound_all_in here symbols s r = bind_all_in here (used at_term symbols) (record { names = []; scope = s }) (r, λ i d h. absurd (omega (arith, h)))
@@ -317,7 +331,7 @@ either_length false xs ys k e f = f
 length_externals : (i : ℕ) (names : List table.Name) (sources : List Source) → length (with_externals i names sources) ≡ length sources
 length_externals i [] sources = refl
 length_externals i (n ∷ names) sources =
-    either_length (is_undefined n) (with_externals (i + 1) names (with_source n.definition (Given (External i (pos 0))) sources)) (with_externals i names sources) (length sources)
+    either_length (is_external n) (with_externals (i + 1) names (with_source n.definition (Given (External i (pos 0))) sources)) (with_externals i names sources) (length sources)
     (length_externals (i + 1) names (with_source n.definition (Given (External i (pos 0))) sources) ∙ length_with_source n.definition (Given (External i (pos 0))) sources)
     (length_externals i names sources)
 

@@ -1,5 +1,5 @@
 -- What the code's lists are in the definitions' terms.
-use Rattle.std.proofs.Common.{◌≡◌, ◌<◌, ◌≤◌, arith, ℕ, List, [], ◌∷◌, ◌++◌, length, map, sym, ap, ◌∙◌, subst, refl, Option, Some, None, Ok, Err}
+use Rattle.std.proofs.Common.{◌≡◌, ◌<◌, ◌≤◌, arith, ℕ, List, [], ◌∷◌, ◌++◌, length, map, sym, ap, ◌∙◌, subst, refl, Option, Some, None, Ok, Err, true}
 use Rattle.std.proofs.lemmas.List.{get_or-map, length-map, length-set, map-append}
 use Rattle.std.proofs.Math.Seq.{get_or-append_seam}
 use Rattle.std.specs.Global.{Vec}
@@ -10,7 +10,7 @@ use Rattle.vax_asm_names.specs.View.{name_of}
 use Rattle.vax_asm_names.specs.declared.types.DefinedBy.TheVariants.{Label}
 use Rattle.vax_asm_names.specs.declared.types.Duplicate.{Duplicate}
 use Rattle.vax_asm_names.specs.declared.types.Name.{Name}
-use Rattle.vax_asm_scope.specs.Scope.{Scope, entry, entry_by}
+use Rattle.vax_asm_scope.specs.Scope.{Scope, entry, entry_by, is_missing}
 use Rattle.vax_asm_values.specs.Values.{Written, Means, Worked}
 use Rattle.vax_asm_values.specs.View.{meaning_of}
 use Rattle.vax_asm_values.specs.declared.types.Meaning.{Meaning}
@@ -18,7 +18,12 @@ use Rattle.vax_asm_values.specs.declared.types.Meaning.{Meaning}
 pub definition_seen : (xs : List Name) (all : List specs.Name) (i : ℕ) (d : Name) → map name_of xs ≡ all → i < length all → (slice_index_or xs i d).definition ≡ (specs.name_at all i).definition
 definition_seen xs all i d is h =
     let within : i < length xs = subst (λ n. i < n) (length-map xs name_of) (subst (λ (l : List specs.Name). i < length l) (sym is) h) in
-    ap (λ (n : specs.Name). n.definition) (sym (get_or-map name_of xs i d (specs.first_seen [] 0) within) ∙ ap (λ (l : List specs.Name). specs.name_at l i) is)
+    ap (λ (n : specs.Name). n.definition) (sym (get_or-map name_of xs i d (specs.first_seen true [] 0) within) ∙ ap (λ (l : List specs.Name). specs.name_at l i) is)
+
+pub missing_seen : (xs : List Name) (all : List specs.Name) (i : ℕ) (d : Name) → map name_of xs ≡ all → i < length all → is_missing (name_of (slice_index_or xs i d)) ≡ is_missing (specs.name_at all i)
+missing_seen xs all i d is h =
+    let within : i < length xs = subst (λ n. i < n) (length-map xs name_of) (subst (λ (l : List specs.Name). i < length l) (sym is) h) in
+    ap is_missing (sym (get_or-map name_of xs i d (specs.first_seen true [] 0) within) ∙ ap (λ (l : List specs.Name). specs.name_at l i) is)
 
 pub meaning_added : (ms : List Meaning) (m : Meaning) → map meaning_of (ms ++ m ∷ []) ≡ map meaning_of ms ++ meaning_of m ∷ []
 meaning_added ms m = map-append meaning_of ms (m ∷ [])
@@ -42,8 +47,8 @@ appeared_by : (text : List ℕ) (s : Scope) (o : Option ℕ) (e : Duplicate)
     → (entry_by text s o).scope ≡ s
 appeared_by text s (Some i) e h = refl
 appeared_by text s None e h =
-    let fresh = specs.first_seen text (length s.sources) in
-    let last : specs.name_at (s.names.all ++ fresh ∷ []) (length s.names.all) ≡ fresh = get_or-append_seam s.names.all fresh [] (specs.first_seen [] 0) in
+    let fresh = specs.first_seen s.names.assumes_external text (length s.sources) in
+    let last : specs.name_at (s.names.all ++ fresh ∷ []) (length s.names.all) ≡ fresh = get_or-append_seam s.names.all fresh [] (specs.first_seen true [] 0) in
     let names = specs.with_name text (length s.sources) s.names in
     let is : Ok (specs.with_change (length s.names.all) names (record fresh { defined_by = Label })) ≡ Err e =
     ap (λ (n : specs.Name). changed (length s.names.all) names (labelled n)) (sym last) ∙ h in

@@ -1,6 +1,6 @@
 -- The names and the definitions so far, and what statements do to them (VAX MACRO and Instruction Set Reference Manual,
 -- "Symbols", "Local labels" and "Direct assignment statement").
-use Rattle.std.specs.Prelude.{◌<◌, ◌+◌, ℕ, pos, Bool, true, false, ◌==◌, if◌then◌else◌, All, List, [], ◌∷◌, ◌++◌, length, Option, Some, None, Result, Ok, Err, codes}
+use Rattle.std.specs.Prelude.{◌<◌, ◌+◌, ℕ, pos, Bool, true, false, ◌&&◌, ◌==◌, if◌then◌else◌, All, List, [], ◌∷◌, ◌++◌, length, Option, Some, None, Result, Ok, Err, codes, not}
 use Rattle.std.specs.Option.{ForSome}
 use Rattle.std.specs.Char.{is_ascii_digit}
 use Rattle.std.specs.Str.{bytes_eq}
@@ -12,6 +12,7 @@ use Rattle.vax_asm_names.specs.Names as table
 use Rattle.vax_asm_names.specs.declared.types.DefinedBy.{DefinedBy}
 use Rattle.vax_asm_names.specs.declared.types.DefinedBy.TheVariants.{Nothing, Label, Assignment}
 use Rattle.vax_asm_names.specs.declared.types.Duplicate.{Duplicate}
+use Rattle.vax_asm_names.specs.declared.types.Linkage.{Linkage}
 use Rattle.vax_asm_names.specs.declared.types.Local.{Local}
 use Rattle.vax_asm_values.specs.Values.{Meaning, Written, Source, ToCome, Given, Worked, worth, value_of, with_source}
 use Rattle.vax_asm_scope.specs.Used.{at_term, used}
@@ -147,14 +148,17 @@ begun_block s = record s { names = table.in_next_block s.names }
 abbrev pub in_block : ℕ → Scope → Scope
 in_block i s = record s { names = table.in_block i s.names }
 
--- a name that other modules may use
-abbrev pub global_by : Entry → Scope
-global_by e = record e.scope { names = table.with_change e.number e.scope.names (table.made_global (table.name_at e.scope.names.all e.number)) }
+-- a name that other modules may use, or that one of them may define, or need not
+abbrev pub linked_by : Linkage → Entry → Scope
+linked_by linkage e = record e.scope { names = table.with_change e.number e.scope.names (table.linked linkage (table.name_at e.scope.names.all e.number)) }
 
-abbrev pub made_global : List ℕ → Scope → Scope
-made_global text s = global_by (entry text s)
+abbrev pub linked : Linkage → List ℕ → Scope → Scope
+linked linkage text s = linked_by linkage (entry text s)
 
--- The source is read: a name that nothing has defined is another module's, the external with its place in the list of these.
+-- whether another module may define a name that appears from here on, where nothing more is said of it
+abbrev pub assuming : Bool → Scope → Scope
+assuming assumes s = record s { names = table.assuming assumes s.names }
+
 abbrev pub undefined_by : DefinedBy → Bool
 undefined_by Nothing = true
 undefined_by Label = false
@@ -163,9 +167,25 @@ undefined_by Assignment = false
 abbrev pub is_undefined : table.Name → Bool
 is_undefined n = undefined_by n.defined_by
 
+-- a name that nothing here has defined, and no other module may define
+abbrev pub is_missing : table.Name → Bool
+is_missing n = is_undefined n && not n.external
+
+abbrev pub missing_by : Scope → Option ℕ → Bool
+missing_by s (Some i) = is_missing (table.name_at s.names.all i)
+missing_by s None = false
+
+abbrev pub misses : List ℕ → Scope → Bool
+misses text s = missing_by s (s.names.numbers text)
+
+-- The source is read: a name that nothing has defined, and that another module may define, is the external with its place in the list of
+-- these. Every other one stays without a definition.
+abbrev pub is_external : table.Name → Bool
+is_external n = is_undefined n && n.external
+
 abbrev pub external_names : List table.Name → List (List ℕ)
 external_names [] = []
-external_names (n ∷ names) = if is_undefined n then n.text ∷ external_names names else external_names names
+external_names (n ∷ names) = if is_external n then n.text ∷ external_names names else external_names names
 
 -- what an external name of this number is given
 abbrev pub external_at : ℕ → Source
@@ -174,7 +194,7 @@ external_at i = Given (External i (pos 0))
 abbrev pub with_externals : ℕ → List table.Name → List Source → List Source
 with_externals i [] sources = sources
 with_externals i (n ∷ names) sources =
-    if is_undefined n then with_externals (i + 1) names (with_source n.definition (external_at i) sources)
+    if is_external n then with_externals (i + 1) names (with_source n.definition (external_at i) sources)
     else with_externals i names sources
 
 abbrev pub closed : Scope → Scope

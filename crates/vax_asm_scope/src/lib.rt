@@ -13,4 +13,4 @@ mod tables;
 pub use known::KnownNames;
 pub use place::uses_place;
 pub use scope::Scope;
-pub use vax_asm_names::LabelError;
+pub use vax_asm_names::{LabelError, Linkage};

@@ -8,7 +8,7 @@ use crate::tables::Tables;
 use std::alloc::Global;
 use std::mem;
 use std::rc::Rc;
-use vax_asm_names::{LabelError, Name};
+use vax_asm_names::{LabelError, Linkage, Name};
 use vax_asm_values::Expression;
 use vax_dialect::Dialect;
 use vax_lex::{ExprError, Token, Value};
@@ -30,7 +30,7 @@ impl Scope {
     ghost use Rattle.vax_asm_names.specs.View.{name_of};
     ghost use Rattle.vax_asm_scope.specs.Kept.{scope_of};
     ghost use Rattle.vax_asm_scope.specs.Known.{known};
-    ghost use Rattle.vax_asm_scope.specs.Scope.{nothing, entry, definition_at, definition_of, bound, labelled, assigned, labelled_locally, begun_block, in_block, made_global, external_names, closed};
+    ghost use Rattle.vax_asm_scope.specs.Scope.{nothing, entry, definition_at, definition_of, bound, labelled, assigned, labelled_locally, begun_block, in_block, linked, assuming, misses, external_names, closed};
     ghost use Rattle.vax_asm_scope.specs.Used.{names_of};
     ghost use Rattle.vax_asm_scope.specs.View.{Defines, Labels, texts_of};
     ghost use Rattle.vax_asm_values.specs.Certain.{certain};
@@ -83,7 +83,7 @@ impl Scope {
     }
 
     /// Whether a name of an expression means a definition that is still to come. Once the source is read, that is a local
-    /// label that its block doesn't define.
+    /// label that its block doesn't define, or a name that neither this module nor another one may define.
     pub fn names_to_come(&self, expression: &Expression) -> bool
         ensures { result ≡ names_to_come (scope_of self.now).sources (written_of expression.now) }
     {
@@ -249,19 +249,37 @@ impl Scope {
         *self = Scope { tables };
     }
 
-    /// Other modules may use a name, which is no local label.
-    pub fn make_global(&mut self, alloc: Global, text: &[u8]) -> Result<(), NoMemory>
-        ensures { OnOk result (scope_of self.new ≡ made_global text.now (scope_of self.old)) }
+    /// The module says of a name, which is no local label, that other modules may use it, or that one of them may define it.
+    pub fn link(&mut self, alloc: Global, text: &[u8], linkage: Linkage) -> Result<(), NoMemory>
+        ensures { OnOk result (scope_of self.new ≡ linked linkage text.now (scope_of self.old)) }
     {
         let Scope { tables, .. } = mem::replace(self, Scope::new(alloc));
         let mut tables = tables;
-        tables.make_global(alloc, text)?;
+        tables.link(alloc, text, linkage)?;
         *self = Scope { tables };
         Ok(())
     }
 
-    /// The source is read: each name that nothing has defined is another module's. They are told in the order in which
-    /// they first appeared, and each means the external with its place in that list.
+    /// Whether another module may define a name that appears from here on, where nothing more is said of it. At the start
+    /// it may.
+    pub fn assume_external(&mut self, alloc: Global, assumes: bool)
+        ensures { scope_of self.new ≡ assuming assumes (scope_of self.old) }
+    {
+        let Scope { tables, .. } = mem::replace(self, Scope::new(alloc));
+        let mut tables = tables;
+        tables.names.assume_external(assumes);
+        *self = Scope { tables };
+    }
+
+    /// Whether nothing has defined a name that has appeared, and no other module may.
+    pub fn misses(&self, text: &[u8]) -> bool
+        ensures { result ≡ misses text.now (scope_of self.now) }
+    {
+        self.tables.misses(text)
+    }
+
+    /// The source is read: each name that nothing has defined, and that another module may define, is that module's. They are
+    /// told in the order in which they first appeared, and each means the external with its place in that list.
     pub fn close(&mut self, alloc: Global) -> Result<Vec<Vec<u8>>, NoMemory>
         ensures externals { IfOk result (λ names. texts_of names
             ≡ external_names (scope_of self.old).names.all) }

@@ -4,14 +4,14 @@ ghost use Rattle.std.specs.Prelude.{◌≡◌, ◌<◌, ◌++◌, ◌∷◌, [],
 ghost use Rattle.vax_lex.specs.Grammar.{symbol_of, symbols_of};
 ghost use Rattle.vax_lex.specs.Tokens.{IsTokenOf};
 ghost use Rattle.vax_asm_names.specs.View.{name_of};
-ghost use Rattle.vax_asm_scope.specs.Scope.{is_local, undefined_by, external_at, with_externals, external_names};
+ghost use Rattle.vax_asm_scope.specs.Scope.{is_external, is_local, is_missing, is_undefined, external_at, with_externals, external_names};
 ghost use Rattle.vax_asm_scope.specs.View.{texts_of};
 ghost use Rattle.vax_asm_values.specs.Definitions.{sources_of};
 ghost use Rattle.vax_asm_values.specs.Values.{with_source};
 
 use crate::place::{Place, behind, is_dot, kept_text};
 use std::alloc::Global;
-use vax_asm_names::{DefinedBy, LabelError, Name, NameTable};
+use vax_asm_names::{DefinedBy, LabelError, Linkage, Name, NameTable};
 use vax_asm_values::{Definitions, Expression, Meaning};
 use vax_lex::{ExprError, Token, TokenKind, Value};
 use vax_space::NoMemory;
@@ -34,14 +34,28 @@ fn is_local(text: &[u8]) -> bool
 }
 
 /// Whether a name has no definition.
-fn is_undefined(defined_by: DefinedBy) -> bool
-    ensures { result ≡ undefined_by defined_by }
+fn is_undefined(name: &Name) -> bool
+    ensures { result ≡ is_undefined (name_of name.now) }
 {
-    match defined_by {
+    match name.defined_by {
         DefinedBy::Nothing => true,
         DefinedBy::Label => false,
         DefinedBy::Assignment => false,
     }
+}
+
+/// Whether a name is another module's.
+fn is_external(name: &Name) -> bool
+    ensures { result ≡ is_external (name_of name.now) }
+{
+    is_undefined(name) && name.external
+}
+
+/// Whether a name has no definition here, and may have none in another module.
+fn is_missing(name: &Name) -> bool
+    ensures { result ≡ is_missing (name_of name.now) }
+{
+    is_undefined(name) && !name.external
 }
 
 /// A definition that is to come is the next external, which has this name.
@@ -66,30 +80,30 @@ fn add_external(
     Ok(())
 }
 
-/// A name that nothing has defined is another module's.
+/// A name is another module's, if it is an external one.
 #[tactic(auto, using(crate::proofs::Closing::no_name))]
 fn close_name(
     definitions: &mut Definitions,
     alloc: Global,
-    undefined: bool,
+    external: bool,
     definition: usize,
     text: &[u8],
     externals: &mut Vec<Vec<u8>>,
 ) -> Result<(), NoMemory>
     ensures sources { OnOk result (sources_of definitions.new
-        ≡ (if undefined then with_source definition (external_at (length (texts_of externals.old)))
+        ≡ (if external then with_source definition (external_at (length (texts_of externals.old)))
         (sources_of definitions.old) else sources_of definitions.old)) }
     ensures externals { OnOk result (texts_of externals.new
-        ≡ texts_of externals.old ++ (if undefined then text.now ∷ [] else [])) }
+        ≡ texts_of externals.old ++ (if external then text.now ∷ [] else [])) }
 {
-    if !undefined {
+    if !external {
         return Ok(());
     }
     add_external(definitions, alloc, definition, text, externals)?;
     Ok(())
 }
 
-/// Each of these names that nothing has defined is another module's. They are told in their order.
+/// Each of these names that nothing has defined, and that another module may define, is that module's. They are told in their order.
 #[tactic(auto, using(crate::proofs::Closing::externals_told, crate::proofs::Closing::externals_given))]
 fn close_all(
     definitions: &mut Definitions,
@@ -102,11 +116,11 @@ fn close_all(
 {
     let mut externals = Vec::new(alloc);
     for name in names {
-        let undefined = is_undefined(name.defined_by);
+        let external = is_external(name);
         close_name(
             definitions,
             alloc,
-            undefined,
+            external,
             name.definition,
             &name.text,
             &mut externals,
@@ -119,7 +133,7 @@ impl Tables {
     ghost use Rattle.vax_asm_names.specs.Names.{locals_of, name_at};
     ghost use Rattle.vax_asm_scope.specs.Known.{known};
     ghost use Rattle.vax_asm_scope.specs.PlaceView.{place_of};
-    ghost use Rattle.vax_asm_scope.specs.Scope.{nothing, entry, definition_of, mean, mean_here, mean_local, bind, bind_all, bound, labelled, assigned, kept, labelled_locally, opened_if_fresh, made_global, closed};
+    ghost use Rattle.vax_asm_scope.specs.Scope.{nothing, entry, definition_of, mean, mean_here, mean_local, bind, bind_all, bound, labelled, assigned, kept, labelled_locally, opened_if_fresh, linked, misses, closed};
     ghost use Rattle.vax_asm_scope.specs.Used.{used_by};
     ghost use Rattle.vax_asm_scope.specs.View.{scope_in, bound_in, Defines, Labels};
     ghost use Rattle.vax_asm_values.specs.Values.{Means, Worked};
@@ -401,16 +415,41 @@ impl Tables {
         Ok(())
     }
 
-    /// Other modules may use a name.
-    pub(crate) fn make_global(&mut self, alloc: Global, text: &[u8]) -> Result<(), NoMemory>
-        ensures { OnOk result (scope_in self.new ≡ made_global text.now (scope_in self.old)) }
+    /// The module says of a name that other modules may use it, or that one of them may define it.
+    pub(crate) fn link(
+        &mut self,
+        alloc: Global,
+        text: &[u8],
+        linkage: Linkage,
+    ) -> Result<(), NoMemory>
+        ensures { OnOk result (scope_in self.new ≡ linked linkage text.now (scope_in self.old)) }
     {
         let number = self.entry(alloc, text)?;
-        self.names.make_global(number);
+        self.names.link(number, linkage);
         Ok(())
     }
 
-    /// Each name that nothing has defined is another module's. They are told in the order in which they first appeared.
+    /// Whether the name with a number has no definition here, and may have none in another module.
+    #[tactic(auto, using(crate::proofs::Seen::missing_seen))]
+    fn is_missing(&self, number: usize) -> bool
+        requires { number < length (scope_in self.now).names.all }
+        ensures { result ≡ is_missing (name_at (scope_in self.now).names.all number) }
+    {
+        let all = self.names.names();
+        is_missing(&all[number])
+    }
+
+    /// Whether nothing has defined a name that has appeared, and no other module may.
+    pub(crate) fn misses(&self, text: &[u8]) -> bool
+        ensures { result ≡ misses text.now (scope_in self.now) }
+    {
+        match self.names.number(text) {
+            Some(number) => self.is_missing(number),
+            None => false,
+        }
+    }
+
+    /// Each name that nothing has defined, and that another module may define, is that module's. They are told in the order in which they first appeared.
     pub(crate) fn close(&mut self, alloc: Global) -> Result<Vec<Vec<u8>>, NoMemory>
         ensures externals { IfOk result (λ names. texts_of names
             ≡ external_names (scope_in self.old).names.all) }

@@ -16,6 +16,7 @@ use Rattle.vax_lex.specs.declared.value.Value.TheVariants as value
 use Rattle.vax_macro.specs.Rest.{Opening}
 use Rattle.vax_macro.specs.declared.error.FaultKind.{FaultKind}
 use Rattle.vax_module.specs.Formed.{width_of, IsKnown, IsAlignment, end_of, IsFieldOf, AreApart, Precedes, Formed}
+use Rattle.vax_module.specs.declared.ExternalName.{ExternalName}
 use Rattle.vax_module.specs.declared.Module.{Module}
 use Rattle.vax_module.specs.declared.Reloc.{Reloc}
 use Rattle.vax_module.specs.declared.Section.{Section}
@@ -27,13 +28,12 @@ use Rattle.vax_asm_first.specs.Standing.{Standing}
 use Rattle.vax_asm_encode.specs.Operands.{item_bytes}
 use Rattle.vax_asm_first.specs.declared.types.Content.{Content}
 use Rattle.vax_asm_first.specs.declared.types.Content.TheVariants as content
-use Rattle.vax_asm_scope.specs.Scope.{external_names, is_undefined}
+use Rattle.vax_asm_scope.specs.Scope.{external_names, is_external, is_undefined}
 use Rattle.vax_asm_values.specs.Values.{value_of}
-use Rattle.vax_word.specs.Arithmetic.{bytes_of}
 use Rattle.vax_asm_second.specs.Contents.{field_in, specifiers, before_field, bytes_in, moved, every, relocs_in}
 use Rattle.vax_asm_second.specs.Faults.{value_filled, first_of}
 use Rattle.vax_asm_second.specs.Laid.{Known, is_known, held, Output, linked, written, output, outputs, Laid, laid, laid_behind, section_of}
-use Rattle.vax_asm_second.specs.Modules.{known_in, symbol_by, symbol, global_symbol, transfer_symbol, faults, module_of, unless_faulty, filled_in}
+use Rattle.vax_asm_second.specs.Modules.{known_in, symbol_by, symbol, externals_of, global_symbol, transfer_symbol, faults, module_of, unless_faulty, filled_in}
 use Rattle.vax_asm_second.specs.declared.types.Fault.{Fault}
 use Rattle.vax_asm_second.specs.declared.types.Held.{Held}
 use Rattle.vax_asm_second.specs.declared.types.Link.{Link}
@@ -286,23 +286,37 @@ field_of_all sections r h =
     let same : r.section - 0 ≡ r.section = omega arith in
     (omega (arith, h.1), subst (λ (i : ℕ). IfSome (slice_get sections i) (λ s. end_of r ≤ length s.bytes)) same h.2)
 
+-- as many names of other modules as externals
+either_count : (b : Bool) (text : List ℕ) (texts : List (List ℕ)) (e : ExternalName) (es : List ExternalName) → length texts ≡ length es
+    → length (if b then text ∷ texts else texts) ≡ length (cons_option (if b then Some e else None) es)
+either_count true text texts e es h = ap suc h
+either_count false text texts e es h = h
+
+externals_count : (names : List Name) → length (external_names names) ≡ length (externals_of names)
+externals_count [] = refl
+externals_count (n ∷ names) = either_count (is_external n) n.text (external_names names) (record { name = n.text; weak = n.weak }) (externals_of names) (externals_count names)
+
 -- the module that statements leave
 abbrev pub module_in : Standing → Module
-module_in s = module_of (known_in s) (laid (known_in s) 0 s.sections.all) s.scope.names.all (external_names s.scope.names.all) s.transfer
+module_in s = module_of (known_in s) (laid (known_in s) 0 s.sections.all) s.scope.names.all s.transfer
 
 module_formed : (s : Standing) → All IsSoundSection s.sections.all → Formed (module_in s)
 module_formed s sound =
     let k = known_in s in
     let l = laid k 0 s.sections.all in
-    let named = length (external_names s.scope.names.all) in
+    let named = length (externals_of s.scope.names.all) in
+    let same : k.externals ≡ named = externals_count s.scope.names.all in
     let count : k.sections ≡ length l.sections = sym (laid_count k 0 s.sections.all) in
     let layered = laid_layered k 0 s.sections.all sound in
     record {
       aligned = laid_aligned k 0 s.sections.all sound;
-      globals = subst (λ (n : ℕ). All (λ (g : Symbol). IsKnown n named g.value) (filter_map (global_symbol k) s.scope.names.all)) count (globals_worth k s.scope.names.all);
-      transfer = subst (λ (n : ℕ). IfSome (option_and_then (transfer_symbol k) s.transfer) (λ (t : Symbol). IsKnown n named t.value)) count (transfer_worth k s.transfer);
+      globals = subst (λ (n : ℕ). All (λ (g : Symbol). IsKnown n named g.value) (filter_map (global_symbol k) s.scope.names.all)) count
+          (subst (λ (n : ℕ). All (λ (g : Symbol). IsKnown k.sections n g.value) (filter_map (global_symbol k) s.scope.names.all)) same (globals_worth k s.scope.names.all));
+      transfer = subst (λ (n : ℕ). IfSome (option_and_then (transfer_symbol k) s.transfer) (λ (t : Symbol). IsKnown n named t.value)) count
+          (subst (λ (n : ℕ). IfSome (option_and_then (transfer_symbol k) s.transfer) (λ (t : Symbol). IsKnown k.sections n t.value)) same (transfer_worth k s.transfer));
       fields = All-weaker (FieldFrom 0 l.sections) (IsFieldOf l.sections) (λ (r : Reloc) (h : FieldFrom 0 l.sections r). field_of_all l.sections r h) l.relocs layered.fields;
-      targets = subst (λ (n : ℕ). All (λ (r : Reloc). IsKnown n named r.target) l.relocs) count layered.targets;
+      targets = subst (λ (n : ℕ). All (λ (r : Reloc). IsKnown n named r.target) l.relocs) count
+          (subst (λ (n : ℕ). All (λ (r : Reloc). IsKnown k.sections n r.target) l.relocs) same layered.targets);
       apart = pairs_weaker Precedes AreApart l.relocs apart_of layered.ordered;
     }
 

@@ -6,9 +6,11 @@ use Rattle.std.specs.Prelude.{Option, Some, None, slice_index_or}
 use Rattle.vax_asm_sections.specs.View.{part_of, section_of}
 use Rattle.vax_asm_sections.specs.declared.types.Building as code
 use Rattle.vax_asm_sections.specs.declared.types.Piece.{Piece}
+use Rattle.vax_module.specs.declared.ExternalName.{ExternalName}
 use Rattle.vax_module.specs.declared.Reloc.{Reloc}
 use Rattle.vax_module.specs.declared.Section.{Section}
 use Rattle.vax_module.specs.declared.Symbol.{Symbol}
+use Rattle.vax_asm_names.specs.Names as specs
 use Rattle.vax_asm_names.specs.View.{name_of}
 use Rattle.vax_asm_names.specs.declared.types.Name.{Name}
 use Rattle.vax_asm_first.specs.View.{part_seen, section_seen}
@@ -16,7 +18,7 @@ use Rattle.vax_asm_first.specs.declared.types.Fixup.{Fixup}
 use Rattle.vax_asm_second.specs.Faults.{first, first_of}
 use Rattle.vax_asm_second.specs.Laid.{Known, Output, joined, output, outputs, Laid, laid_behind, laid, section_of as laid_section}
 use Rattle.vax_asm_second.specs.declared.types.Fault.{Fault}
-use Rattle.vax_asm_second.specs.Modules.{global_symbol}
+use Rattle.vax_asm_second.specs.Modules.{external_of, global_symbol}
 use Rattle.vax_asm_second.proofs.Order.{first_joined, first_of_both, first_alone}
 
 -- ---- what is written so far, beside what is still to come
@@ -136,27 +138,45 @@ sections_laid k number sections i list all_list relocs all_relocs fault all_faul
 
 -- ---- names
 
-symbols_joined : (o : Option Symbol) (xs : List Symbol) → cons_option o xs ≡ cons_option o [] ++ xs
-symbols_joined None xs = refl
-symbols_joined (Some s) xs = refl
+kept_joined : {X : Type 0} (o : Option X) (xs : List X) → cons_option o xs ≡ cons_option o [] ++ xs
+kept_joined None xs = refl
+kept_joined (Some x) xs = refl
 
-name_split : (k : Known) (names : List Name) (i : ℕ) (n : Name) → i < length names → n ≡ slice_index_or names i n
-    → filter_map (global_symbol k) (map name_of (drop i names)) ≡ cons_option (global_symbol k (name_of n)) [] ++ filter_map (global_symbol k) (map name_of (drop (i + 1) names))
-name_split k names i n h at =
+kept_split : {X : Type 0} (f : specs.Name → Option X) (names : List Name) (i : ℕ) (n : Name) → i < length names → n ≡ slice_index_or names i n
+    → filter_map f (map name_of (drop i names)) ≡ cons_option (f (name_of n)) [] ++ filter_map f (map name_of (drop (i + 1) names))
+kept_split f names i n h at =
     let split : drop i names ≡ n ∷ drop (i + 1) names = rw add-one (drop-cons names i n h ∙ ap (λ (x : Name). x ∷ drop (suc i) names) (sym at)) in
-    ap (λ (l : List Name). filter_map (global_symbol k) (map name_of l)) split
-    ∙ symbols_joined (global_symbol k (name_of n)) (filter_map (global_symbol k) (map name_of (drop (i + 1) names)))
+    ap (λ (l : List Name). filter_map f (map name_of l)) split
+    ∙ kept_joined (f (name_of n)) (filter_map f (map name_of (drop (i + 1) names)))
+
+kept_added : {X : Type 0} (f : specs.Name → Option X) (names : List Name) (i : ℕ) (n : Name) (kept : Option X) (list new all : List X) → i < length names → n ≡ slice_index_or names i n
+    → kept ≡ f (name_of n) → new ≡ list ++ cons_option kept []
+    → list ++ filter_map f (map name_of (drop i names)) ≡ all
+    → new ++ filter_map f (map name_of (drop (i + 1) names)) ≡ all
+kept_added {X} f names i n kept list new all h at e more same =
+    let rest = filter_map f (map name_of (drop (i + 1) names)) in
+    ap (λ (l : List X). l ++ rest) (more ∙ ap (λ (o : Option X). list ++ cons_option o []) e)
+    ∙ append_assoc list (cons_option (f (name_of n)) []) rest
+    ∙ ap (λ (l : List X). list ++ l) (sym (kept_split f names i n h at))
+    ∙ same
+
+all_kept : {X : Type 0} (f : specs.Name → Option X) (names : List Name) (i : ℕ) (list all : List X) → length names ≤ i → list ++ filter_map f (map name_of (drop i names)) ≡ all → list ≡ all
+all_kept f names i list all h same = sym (append-nil list) ∙ ap (λ (l : List Name). list ++ filter_map f (map name_of l)) (sym (drop_all i names h)) ∙ same
 
 pub name_added : (k : Known) (names : List Name) (i : ℕ) (n : Name) (symbol : Option Symbol) (list new all : List Symbol) → i < length names → n ≡ slice_index_or names i n
     → symbol ≡ global_symbol k (name_of n) → new ≡ list ++ cons_option symbol []
     → list ++ filter_map (global_symbol k) (map name_of (drop i names)) ≡ all
     → new ++ filter_map (global_symbol k) (map name_of (drop (i + 1) names)) ≡ all
-name_added k names i n symbol list new all h at e more same =
-    let rest = filter_map (global_symbol k) (map name_of (drop (i + 1) names)) in
-    ap (λ (l : List Symbol). l ++ rest) (more ∙ ap (λ (o : Option Symbol). list ++ cons_option o []) e)
-    ∙ append_assoc list (cons_option (global_symbol k (name_of n)) []) rest
-    ∙ ap (λ (l : List Symbol). list ++ l) (sym (name_split k names i n h at))
-    ∙ same
+name_added k names i n symbol list new all h at e more same = kept_added (global_symbol k) names i n symbol list new all h at e more same
 
 pub names_added : (k : Known) (names : List Name) (i : ℕ) (list all : List Symbol) → length names ≤ i → list ++ filter_map (global_symbol k) (map name_of (drop i names)) ≡ all → list ≡ all
-names_added k names i list all h same = sym (append-nil list) ∙ ap (λ (l : List Name). list ++ filter_map (global_symbol k) (map name_of l)) (sym (drop_all i names h)) ∙ same
+names_added k names i list all h same = all_kept (global_symbol k) names i list all h same
+
+pub external_added : (names : List Name) (i : ℕ) (n : Name) (external : Option ExternalName) (list new all : List ExternalName) → i < length names → n ≡ slice_index_or names i n
+    → external ≡ external_of (name_of n) → new ≡ list ++ cons_option external []
+    → list ++ filter_map external_of (map name_of (drop i names)) ≡ all
+    → new ++ filter_map external_of (map name_of (drop (i + 1) names)) ≡ all
+external_added names i n external list new all h at e more same = kept_added external_of names i n external list new all h at e more same
+
+pub externals_added : (names : List Name) (i : ℕ) (list all : List ExternalName) → length names ≤ i → list ++ filter_map external_of (map name_of (drop i names)) ≡ all → list ≡ all
+externals_added names i list all h same = all_kept external_of names i list all h same

@@ -56,16 +56,16 @@ pub fault_told : (s : Standing) (assigned : List Assignment) (begin : Option Ope
 unfolding filled_in
 fault_told s assigned begin k f e h =
     let names = s.scope.names.all in
-    let m = λ (j : Known). module_of j (laid j 0 s.sections.all) names (external_names names) s.transfer in
+    let m = λ (j : Known). module_of j (laid j 0 s.sections.all) names s.transfer in
     ap (λ (j : Known). unless_faulty (first_of (faults j s.sections.all assigned begin)) (m j)) (sym e) ∙ ap (λ (o : Option Fault). unless_faulty o (m k)) h
 
 pub module_told : (s : Standing) (assigned : List Assignment) (begin : Option Opening) (k : Known) (m : Module) → k ≡ known_in s → first_of (faults k s.sections.all assigned begin) ≡ None
-    → m ≡ module_of k (laid k 0 s.sections.all) s.scope.names.all (external_names s.scope.names.all) s.transfer
+    → m ≡ module_of k (laid k 0 s.sections.all) s.scope.names.all s.transfer
     → filled_in s assigned begin ≡ Ok m
 unfolding filled_in
 module_told s assigned begin k m e h g =
     let names = s.scope.names.all in
-    let made = λ (j : Known). module_of j (laid j 0 s.sections.all) names (external_names names) s.transfer in
+    let made = λ (j : Known). module_of j (laid j 0 s.sections.all) names s.transfer in
     ap (λ (j : Known). unless_faulty (first_of (faults j s.sections.all assigned begin)) (made j)) (sym e)
     ∙ ap (λ (o : Option Fault). unless_faulty o (made k)) h
     ∙ ap (λ (n : Module). let told : Result Module Fault = Ok n in told) (sym g)
@@ -104,16 +104,15 @@ error_found s assigned begin sources count named seen texts errors.NoMemory f h 
 pub module_found : (s : Standing) (assigned : List Assignment) (begin : Option Opening) (sources : List Source) (count named : ℕ) (seen : List (Section Fixed)) (names : List Name) (texts : List (List ℕ)) (m : Module)
     → IsFound s sources count named seen texts → names ≡ s.scope.names.all
     → first_of (faults (known_from sources count named) seen assigned begin) ≡ None
-    → m ≡ module_of (known_from sources count named) (laid (known_from sources count named) 0 seen) names texts s.transfer
+    → m ≡ module_of (known_from sources count named) (laid (known_from sources count named) 0 seen) names s.transfer
     → filled_in s assigned begin ≡ Ok m
 module_found s assigned begin sources count named seen names texts m f n h made =
     let k = known_from sources count named in
     module_told s assigned begin k m (known_found s sources count named seen texts f)
     (faults_found s assigned begin sources count named seen texts f ∙ h)
     (made
-    ∙ ap (λ (l : List (Section Fixed)). module_of k (laid k 0 l) names texts s.transfer) f.seen
-    ∙ ap (λ (l : List Name). module_of k (laid k 0 s.sections.all) l texts s.transfer) n
-    ∙ ap (λ (l : List (List ℕ)). module_of k (laid k 0 s.sections.all) s.scope.names.all l s.transfer) f.texts)
+    ∙ ap (λ (l : List (Section Fixed)). module_of k (laid k 0 l) names s.transfer) f.seen
+    ∙ ap (λ (l : List Name). module_of k (laid k 0 s.sections.all) l s.transfer) n)
 
 pub seen_count : (sections : List (Building Fixup)) → length sections ≡ length (map section_seen (map section_of sections))
 seen_count [] = refl

@@ -6,14 +6,13 @@ ghost use Rattle.std.specs.Option.{option_and_then};
 ghost use Rattle.vax_asm_second.specs.Faults.{first_of, assigned_faults, unclosed_faults};
 ghost use Rattle.vax_asm_second.specs.Laid as specs;
 ghost use Rattle.vax_asm_second.specs.Laid.{laid};
-ghost use Rattle.vax_asm_second.specs.Modules.{symbol, global_symbol, transfer_symbol, faults, module_of, filled_in};
+ghost use Rattle.vax_asm_second.specs.Modules.{symbol, external_of, global_symbol, transfer_symbol, faults, module_of, filled_in};
 ghost use Rattle.vax_asm_second.specs.View.{known_of, seen_sections, Lays, Fills};
 ghost use Rattle.vax_macro.specs.View.{opening_of};
 ghost use Rattle.vax_module.specs.Formed.{Formed, Precedes};
 ghost use Rattle.vax_asm_names.specs.View.{name_of};
 ghost use Rattle.vax_asm_first.specs.View.{assignment_of, standing_of, transfer_of};
-ghost use Rattle.vax_asm_scope.specs.Scope.{is_undefined};
-ghost use Rattle.vax_asm_scope.specs.View.{texts_of};
+ghost use Rattle.vax_asm_scope.specs.Scope.{is_external, is_undefined};
 
 use crate::faults::{assigned_fault, first, unclosed_fault};
 use crate::types::{Fault, FillError, Found, Known, Laid};
@@ -22,7 +21,7 @@ use vax_asm_first::{Assignment, Fixup, Standing, Transfer};
 use vax_asm_names::{DefinedBy, Name};
 use vax_asm_sections::Building;
 use vax_macro::Begin;
-use vax_module::{Bytes, Items, Module, Symbol};
+use vax_module::{Bytes, ExternalName, Items, Module, Symbol};
 use vax_space::NoMemory;
 
 /// Whether nothing has defined a name.
@@ -35,25 +34,48 @@ fn is_undefined(name: &Name) -> bool
     }
 }
 
-/// The names of externals.
-fn as_bytes(alloc: Global, names: Vec<Vec<u8>>) -> Result<Vec<Bytes>, NoMemory>
-    ensures { IfOk result (λ v. v.items ≡ texts_of names) }
+/// Whether another module may define a name, and this one doesn't.
+fn is_external(name: &Name) -> bool
+    ensures { result ≡ is_external (name_of name.now) }
 {
-    names
-        .into_iter()
-        .map(|name| Bytes::from(name))
-        .collect(alloc)
-        .map_err(|_| NoMemory)
+    is_undefined(name) && name.external
 }
 
-fn add(list: &mut Vec<Symbol>, symbol: Option<Symbol>) -> Result<(), NoMemory>
-    ensures { OnOk result (list.new.items ≡ list.old.items ++ cons_option symbol []) }
+fn add<T: Drop>(list: &mut Vec<T>, item: Option<T>) -> Result<(), NoMemory>
+    ensures { OnOk result (list.new.items ≡ list.old.items ++ cons_option item []) }
 {
-    let Some(symbol) = symbol else {
+    let Some(item) = item else {
         return Ok(());
     };
-    list.push(symbol).map_err(|_| NoMemory)?;
+    list.push(item).map_err(|_| NoMemory)?;
     Ok(())
+}
+
+/// A name that another module may define, and this one doesn't.
+fn external(alloc: Global, name: &Name) -> Result<Option<ExternalName>, NoMemory>
+    ensures { IfOk result (λ e. e ≡ external_of (name_of name.now)) }
+{
+    if !is_external(name) {
+        return Ok(None);
+    }
+    let text = name.text.to_vec(alloc).map_err(|_| NoMemory)?;
+    Ok(Some(ExternalName {
+        name: Bytes::from(text),
+        weak: name.weak,
+    }))
+}
+
+/// The names that another module may define, and this one doesn't.
+#[tactic(auto, using(crate::proofs::Steps::external_added, crate::proofs::Steps::externals_added))]
+fn externals(alloc: Global, names: &[Name]) -> Result<Vec<ExternalName>, NoMemory>
+    ensures { IfOk result (λ v. v.items ≡ filter_map external_of (map name_of names.now)) }
+{
+    let mut list = Vec::new(alloc);
+    for name in names {
+        let external = external(alloc, name)?;
+        add(&mut list, external)?;
+    }
+    Ok(list)
 }
 
 impl Known<'_> {
@@ -122,15 +144,14 @@ impl Known<'_> {
         alloc: Global,
         laid: Laid,
         names: &[Name],
-        externals: Vec<Vec<u8>>,
         transfer: Option<Transfer>,
     ) -> Result<Module, NoMemory>
         ensures { IfOk result (λ m. (l : specs.Laid) → laid.sections.items ≡ l.sections →
             laid.relocs.items ≡ l.relocs → m ≡ module_of (known_of self.entry)
-            l (map name_of names.now) (texts_of externals) (option_map transfer_of transfer)) }
+            l (map name_of names.now) (option_map transfer_of transfer)) }
     {
         let globals = self.globals(alloc, names)?;
-        let externals = as_bytes(alloc, externals)?;
+        let externals = externals(alloc, names)?;
         let transfer = self.transfer(alloc, transfer)?;
         Ok(Module {
             sections: Items::from(laid.sections),
@@ -225,7 +246,7 @@ pub fn fill_in(
         Ok(laid) => laid,
         Err(error) => return Err(error),
     };
-    let Ok(module) = known.module(alloc, laid, scope.names(), externals, transfer) else {
+    let Ok(module) = known.module(alloc, laid, scope.names(), transfer) else {
         return Err(FillError::NoMemory);
     };
     Ok(module)

@@ -1,8 +1,8 @@
 -- The sections of a module while it is assembled (VAX MACRO and Instruction Set Reference Manual, `.PSECT` and `.ALIGN`).
-use Rattle.std.specs.Prelude.{ℕ, ◌+◌, ◌-◌, ◌%◌, ◌^◌, max, Bool, true, false, ◌||◌, ◌==◌, nat_lt, if◌then◌else◌, List, [], ◌∷◌, ◌++◌, length, slice_index_or, slice_set, Option, Some, None, Result, Ok, Err, unwrap_or, not}
+use Rattle.std.specs.Prelude.{ℕ, ◌+◌, ◌-◌, ◌%◌, ◌^◌, max, Bool, true, false, ◌||◌, ◌==◌, nat_lt, if◌then◌else◌, List, [], ◌∷◌, ◌++◌, length, slice_index_or, slice_set, Option, Some, None, Result, Ok, Err, is_some, unwrap_or, not}
 use Rattle.std.specs.Str.{bytes_eq}
 use Rattle.vax_asm_sections.specs.declared.types.Refusal.{Refusal}
-use Rattle.vax_asm_sections.specs.declared.types.Refusal.TheVariants.{Conflict, TooLong}
+use Rattle.vax_asm_sections.specs.declared.types.Refusal.TheVariants.{Absolute, Conflict, TooLong}
 use Rattle.vax_asm_sections.specs.declared.types.Attributes.{Attributes}
 
 -- what a section holds, one behind another: zero bytes, bytes, and fields that are filled in later
@@ -12,7 +12,8 @@ pub data Part (F : Type 0) : Type 0 where
   Field : F → Part F
 
 -- A section: its name, the power of two and the protection that its first `.PSECT` said or left, the power of two that it is
--- aligned to, its size in bytes, and what it holds.
+-- aligned to, its size in bytes, what it holds, and where the next statement goes in it where it is absolute. An absolute section
+-- has no bytes: it only counts, from 0 on.
 pub record Section (F : Type 0) : Type 0 where
   pub name : List ℕ
   pub declared : ℕ
@@ -20,6 +21,7 @@ pub record Section (F : Type 0) : Type 0 where
   pub align : ℕ
   pub size : ℕ
   pub parts : List (Part F)
+  pub absolute : Option ℕ
 
 -- the sections, which of them the next statement goes into, and the size of all
 pub record Sections (F : Type 0) : Type 0 where
@@ -33,19 +35,29 @@ section_limit = 1048576
 abbrev pub module_limit : ℕ
 module_limit = 16777216
 
+-- an absolute section is at address 0, wherever others come to stand
+abbrev pub alignment : Bool → ℕ → ℕ
+alignment true k = 0
+alignment false k = k
+
+abbrev pub start_of : Bool → Option ℕ
+start_of true = Some 0
+start_of false = None
+
 abbrev pub made : {F : Type 0} → List ℕ → Attributes → Section F
 made name attributes = record {
   name = name;
   declared = unwrap_or attributes.align 0;
   write = unwrap_or attributes.write true;
-  align = unwrap_or attributes.align 0;
+  align = alignment (unwrap_or attributes.absolute false) (unwrap_or attributes.align 0);
   size = 0;
   parts = [];
+  absolute = start_of (unwrap_or attributes.absolute false);
 }
 
 -- the section that has no name, before the first `.PSECT`
 abbrev pub unnamed : {F : Type 0} → Section F
-unnamed = record { name = []; declared = 0; write = true; align = 0; size = 0; parts = [] }
+unnamed = record { name = []; declared = 0; write = true; align = 0; size = 0; parts = []; absolute = None }
 
 abbrev pub at_first : {F : Type 0} → Sections F
 at_first = record { all = unnamed ∷ []; current = 0; total = 0 }
@@ -53,9 +65,23 @@ at_first = record { all = unnamed ∷ []; current = 0; total = 0 }
 abbrev pub current_of : {F : Type 0} → Sections F → Section F
 current_of s = slice_index_or s.all s.current unnamed
 
--- the current section with so many bytes more
+-- where the next statement goes in a section
+abbrev pub place_in : {F : Type 0} → Section F → ℕ
+place_in s = unwrap_or s.absolute s.size
+
+-- a section with so many bytes more; one that is absolute counts them
+abbrev pub longer_by : {F : Type 0} → Option ℕ → ℕ → Part F → Section F → Section F
+longer_by (Some at) n part s = record s { absolute = Some (at + n) }
+longer_by None n part s = record s { size = s.size + n; parts = s.parts ++ part ∷ [] }
+
 abbrev pub longer : {F : Type 0} → ℕ → Part F → Section F → Section F
-longer n part s = record s { size = s.size + n; parts = s.parts ++ part ∷ [] }
+longer n part s = longer_by s.absolute n part s
+
+-- an absolute section holds no data
+abbrev pub refuses : {F : Type 0} → Section F → Part F → Bool
+refuses s (Zeros n) = false
+refuses s (Bytes bytes) = is_some s.absolute
+refuses s (Field f) = is_some s.absolute
 
 abbrev pub exceeds : (size total more : ℕ) → Bool
 exceeds size total more = nat_lt section_limit (size + more) || nat_lt module_limit (total + more)
@@ -63,16 +89,19 @@ exceeds size total more = nat_lt section_limit (size + more) || nat_lt module_li
 abbrev pub with_part : {F : Type 0} → ℕ → Part F → Sections F → Sections F
 with_part n part s = record s { all = slice_set s.all s.current (longer n part (current_of s)); total = s.total + n }
 
+abbrev pub put_within : {F : Type 0} → ℕ → Part F → Sections F → Result (Sections F) Refusal
+put_within n part s = if exceeds (place_in (current_of s)) s.total n then Err TooLong else Ok (with_part n part s)
+
 -- so many bytes more in the current section
 unfoldable pub put : {F : Type 0} → ℕ → Part F → Sections F → Result (Sections F) Refusal
-put n part s = if exceeds (current_of s).size s.total n then Err TooLong else Ok (with_part n part s)
+put n part s = if refuses (current_of s) part then Err Absolute else put_within n part s
 
 -- the bytes up to the next multiple
 abbrev pub gap : ℕ → ℕ → ℕ
 gap size boundary = (boundary - size % boundary) % boundary
 
 abbrev pub raised : {F : Type 0} → ℕ → Section F → Section F
-raised k s = record s { align = max s.align k }
+raised k s = record s { align = alignment (is_some s.absolute) (max s.align k) }
 
 abbrev pub with_raised : {F : Type 0} → ℕ → Sections F → Sections F
 with_raised k s = record s { all = slice_set s.all s.current (raised k (current_of s)) }
@@ -83,20 +112,20 @@ raise k (Err refusal) = Err refusal
 
 -- the current section up to a multiple of a power of two, which it is then aligned to at least
 unfoldable pub aligned : {F : Type 0} → ℕ → Sections F → Result (Sections F) Refusal
-aligned k s = let n = gap (current_of s).size (2 ^ k) in raise k (put n (Zeros n) s)
+aligned k s = let n = gap (place_in (current_of s)) (2 ^ k) in raise k (put n (Zeros n) s)
 
 abbrev pub differs : Option ℕ → ℕ → Bool
 differs (Some k) n = not (k == n)
 differs None n = false
 
-abbrev pub differs_in_write : Option Bool → Bool → Bool
-differs_in_write (Some true) write = not write
-differs_in_write (Some false) write = write
-differs_in_write None write = false
+abbrev pub says_otherwise : Option Bool → Bool → Bool
+says_otherwise (Some true) before = not before
+says_otherwise (Some false) before = before
+says_otherwise None before = false
 
 -- a later `.PSECT` may not say otherwise
 abbrev pub conflicts : {F : Type 0} → Attributes → Section F → Bool
-conflicts attributes s = differs attributes.align s.declared || differs_in_write attributes.write s.write
+conflicts attributes s = differs attributes.align s.declared || (says_otherwise attributes.write s.write || says_otherwise attributes.absolute (is_some s.absolute))
 
 abbrev pub gone_back : {F : Type 0} → Attributes → Sections F → ℕ → Result (Sections F) Refusal
 gone_back attributes s i = if conflicts attributes (slice_index_or s.all i unnamed) then Err Conflict else Ok (record s { current = i })

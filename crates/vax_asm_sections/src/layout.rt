@@ -2,7 +2,7 @@
 
 ghost use Rattle.std.specs.Prelude.{◌≡◌, ◌<◌, ◌≤◌, ◌+◌, ◌^◌, IfOk, OnOk, OnErr, IfSome, None, Some, length, map};
 ghost use Rattle.vax_asm_names.specs.ByName.{by_name, with_entry};
-ghost use Rattle.vax_asm_sections.specs.Layout.{gap, differs, differs_in_write, conflicts, exceeds, longer, raised, at_first, current_of, with_part, with_raised, put, aligned, numbered, made, gone_back, begun, selected};
+ghost use Rattle.vax_asm_sections.specs.Layout.{gap, alignment, differs, says_otherwise, conflicts, exceeds, longer, place_in, raised, refuses, start_of, at_first, current_of, with_part, with_raised, put, aligned, numbered, made, gone_back, begun, selected};
 ghost use Rattle.vax_asm_sections.specs.View.{part_of, section_of, sections_of, Leaves};
 
 use crate::types::{Attributes, Building, Layout, Piece, Refusal};
@@ -43,11 +43,11 @@ fn differs(said: Option<u8>, before: u8) -> bool
     }
 }
 
-fn differs_in_write(said: Option<bool>, before: bool) -> bool
-    ensures { result ≡ differs_in_write said before }
+fn says_otherwise(said: Option<bool>, before: bool) -> bool
+    ensures { result ≡ says_otherwise said before }
 {
     match said {
-        Some(write) => write != before,
+        Some(now) => now != before,
         None => false,
     }
 }
@@ -55,7 +55,22 @@ fn differs_in_write(said: Option<bool>, before: bool) -> bool
 fn conflicts<F>(attributes: Attributes, section: &Building<F>) -> bool
     ensures { result ≡ conflicts attributes (section_of section.now) }
 {
-    differs(attributes.align, section.declared) || differs_in_write(attributes.write, section.write)
+    differs(attributes.align, section.declared)
+        || says_otherwise(attributes.write, section.write)
+        || says_otherwise(attributes.absolute, section.absolute.is_some())
+}
+
+/// An absolute section is at address 0, wherever others come to stand.
+fn alignment(absolute: bool, align: u8) -> u8
+    ensures { result ≡ alignment absolute align }
+{
+    if absolute { 0 } else { align }
+}
+
+fn start_of(absolute: bool) -> Option<u32>
+    ensures { result ≡ start_of absolute }
+{
+    if absolute { Some(0) } else { None }
 }
 
 fn is_too_long(size: u32, total: u32, more: u32) -> bool
@@ -66,12 +81,39 @@ fn is_too_long(size: u32, total: u32, more: u32) -> bool
 }
 
 impl<F> Building<F> {
+    /// Where the next statement goes in it.
+    pub fn place(&self) -> u32
+        ensures place { result ≡ place_in (section_of self.now) }
+        ensures near { result ≤ 1048576 }
+    {
+        match self.absolute {
+            Some(at) => at,
+            None => self.size,
+        }
+    }
+
+    /// Whether it holds no such data.
+    fn refuses(&self, piece: &Piece<F>) -> bool
+        ensures { result ≡ refuses (section_of self.now) (part_of piece.now) }
+    {
+        match piece {
+            Piece::Zeros(_) => false,
+            Piece::Bytes(_) | Piece::Field(_) => self.absolute.is_some(),
+        }
+    }
+
     fn add(&mut self, more: u32, piece: Piece<F>) -> Result<(), AllocFailed<Piece<F>>>
-        requires { self.old.size + more ≤ 1048576 }
+    where
+        F: Drop,
+        requires { place_in (section_of self.old) + more ≤ 1048576 }
         ensures longer { OnOk result (section_of self.new
             ≡ longer more (part_of piece) (section_of self.old)) }
         ensures named { self.new.name ≡ self.old.name }
     {
+        if let Some(at) = self.absolute {
+            self.absolute = Some(at + more);
+            return Ok(());
+        }
         self.pieces.push(piece)?;
         self.size += more;
         Ok(())
@@ -81,7 +123,7 @@ impl<F> Building<F> {
         requires { align ≤ 9 }
         ensures { section_of self.new ≡ raised align (section_of self.old) }
     {
-        self.align = self.align.max(align);
+        self.align = alignment(self.absolute.is_some(), self.align.max(align));
     }
 }
 
@@ -89,14 +131,16 @@ fn made<F>(alloc: Global, name: Vec<u8>, attributes: Attributes) -> Building<F>
     requires { IfSome attributes.align (λ k. k ≤ 9) }
     ensures { section_of result ≡ made name.items attributes }
 {
-    let align = attributes.align.unwrap_or(0);
+    let declared = attributes.align.unwrap_or(0);
+    let absolute = attributes.absolute.unwrap_or(false);
     Building {
         name,
-        declared: align,
+        declared,
         write: attributes.write.unwrap_or(true),
-        align,
+        align: alignment(absolute, declared),
         size: 0,
         pieces: Vec::new(alloc),
+        absolute: start_of(absolute),
     }
 }
 
@@ -136,6 +180,7 @@ impl<F> Layout<F> {
             align: 0,
             size: 0,
             pieces: Vec::new(alloc),
+            absolute: None,
         };
         let mut numbers = BTreeMap::new(alloc);
         add_number(alloc, &mut numbers, &[], 0)?;
@@ -171,7 +216,9 @@ impl<F> Layout<F> {
 
     #[tactic(auto, using(crate::proofs::Changing::part_added))]
     fn add(&mut self, more: u32, piece: Piece<F>) -> Result<(), AllocFailed<Piece<F>>>
-        requires section { (current_of (sections_of self.old)).size + more ≤ 1048576 }
+    where
+        F: Drop,
+        requires section { place_in (current_of (sections_of self.old)) + more ≤ 1048576 }
         requires total { self.old.total + more < 2 ^ 32 }
         ensures { OnOk result (sections_of self.new
             ≡ with_part more (part_of piece) (sections_of self.old)) }
@@ -191,7 +238,7 @@ impl<F> Layout<F> {
 
     /// Adds so many bytes to the section that the next statement goes into.
     ///
-    /// [`Refusal::TooLong`] where the section or the module would be too long, [`Refusal::NoMemory`] where memory is
+    /// [`Refusal::Absolute`] where that is absolute and the bytes aren't zeros alone, [`Refusal::TooLong`] where the section or the module would be too long, [`Refusal::NoMemory`] where memory is
     /// refused; the sections are then as before.
     #[tactic(auto, unfolding(crate::specs::Layout::put))]
     pub fn put(&mut self, more: u32, piece: Piece<F>) -> Result<(), Refusal>
@@ -200,7 +247,10 @@ impl<F> Layout<F> {
         ensures { Leaves
             result self.old self.new (put more (part_of piece) (sections_of self.old)) }
     {
-        if is_too_long(self.current().size, self.total, more) {
+        if self.current().refuses(&piece) {
+            return Err(Refusal::Absolute);
+        }
+        if is_too_long(self.current().place(), self.total, more) {
             return Err(Refusal::TooLong);
         }
         self.add(more, piece).map_err(|_| Refusal::NoMemory)?;
@@ -216,7 +266,7 @@ impl<F> Layout<F> {
         requires { align ≤ 9 }
         ensures { Leaves result self.old self.new (aligned align (sections_of self.old)) }
     {
-        let more = gap(self.current().size, align);
+        let more = gap(self.current().place(), align);
         self.put(more, Piece::Zeros(more))?;
         self.raise(align);
         Ok(())
@@ -267,7 +317,7 @@ impl<F> Layout<F> {
 
     /// `.PSECT`: chooses the section with this name, which begins if there is none.
     ///
-    /// [`Refusal::Conflict`] where the section was first said to have another alignment or protection,
+    /// [`Refusal::Conflict`] where the section was first said to have another alignment or protection, or to be absolute or not,
     /// [`Refusal::NoMemory`] where memory is refused; the sections are then as before.
     #[tactic(auto, unfolding(crate::specs::Layout::selected))]
     pub fn select(

@@ -6,10 +6,10 @@ use Rattle.vax_dialect.specs.declared.Dialect.{Dialect}
 use Rattle.vax_word.specs.declared.Size.TheVariants as size
 use Rattle.vax_asm_encode.specs.declared.operand.DataKind.TheVariants.{Number, Signed, Octaword}
 use Rattle.vax_asm_statement.specs.declared.directives.Directive.{Directive}
-use Rattle.vax_asm_statement.specs.declared.directives.Directive.TheVariants.{Section, Entry, Data, Address, Text, CountedText, ZeroText, DescribedText, Space, Reference, Align, Even, Odd, Global, External, Enable, Disable, Default, Save, Restore, Listing, End}
+use Rattle.vax_asm_statement.specs.declared.directives.Directive.TheVariants.{Section, Entry, Data, Address, Text, CountedText, ZeroText, DescribedText, Space, Reference, Align, Even, Odd, Global, Weak, External, Enable, Disable, Default, Save, Restore, Listing, OperandType, Error, End}
 use Rattle.vax_asm_statement.specs.declared.directives.Named.{Named}
 use Rattle.vax_asm_statement.specs.declared.directives.Attribute.{Attribute}
-use Rattle.vax_asm_statement.specs.declared.directives.Attribute.TheVariants.{Align as AlignTo, Write, Ignored}
+use Rattle.vax_asm_statement.specs.declared.directives.Attribute.TheVariants.{Align as AlignTo, Write, Absolute, Ignored}
 use Rattle.vax_asm_statement.specs.declared.directives.NamedAttribute.{NamedAttribute}
 
 abbrev pub directives : List (List ℕ × Directive)
@@ -50,7 +50,7 @@ directives =
     ∷ []
 
 -- Those of one dialect alone. `.MCALL` and `.LIBRARY` name where macros are, which stand in the source here; `.LINK` names what is
--- linked, and `.PRINT` and `.WARN` give messages.
+-- linked, `.TRANSFER` a vector of a shareable image; `.PRINT` and `.WARN` give messages, and `.ERROR` one that is a fault.
 abbrev pub further_directives : List (List ℕ × Directive)
 further_directives =
     (codes ".ASCID", DescribedText)
@@ -64,8 +64,9 @@ further_directives =
     ∷ (codes ".REF2", Reference size.W)
     ∷ (codes ".REF4", Reference size.L)
     ∷ (codes ".REF8", Reference size.Q)
+    ∷ (codes ".NTYPE", OperandType)
     ∷ (codes ".ODD", Odd)
-    ∷ (codes ".WEAK", Global)
+    ∷ (codes ".WEAK", Weak)
     ∷ (codes ".ENABLE", Enable)
     ∷ (codes ".ENABL", Enable)
     ∷ (codes ".DISABLE", Disable)
@@ -81,8 +82,10 @@ further_directives =
     ∷ (codes ".LIBRARY", Listing)
     ∷ (codes ".MCALL", Listing)
     ∷ (codes ".LINK", Listing)
+    ∷ (codes ".TRANSFER", Listing)
     ∷ (codes ".PRINT", Listing)
     ∷ (codes ".WARN", Listing)
+    ∷ (codes ".ERROR", Error)
     ∷ []
 
 -- what stands with the first of these names that a name is, in letters of either case
@@ -119,7 +122,7 @@ attributes =
     ∷ (codes "SHR", Ignored)
     ∷ (codes "NOSHR", Ignored)
     ∷ (codes "CON", Ignored)
-    ∷ (codes "REL", Ignored)
+    ∷ (codes "REL", Absolute false)
     ∷ (codes "LCL", Ignored)
     ∷ (codes "GBL", Ignored)
     ∷ (codes "USR", Ignored)

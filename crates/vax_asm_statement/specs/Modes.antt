@@ -62,6 +62,10 @@ is_letter letter None = false
 abbrev pub is_prefixed : List ℕ → ℕ → List Token → Bool
 is_prefixed line letter tokens = is_letter letter (prefix_letter line tokens)
 
+-- `G^e`, perhaps with an index
+abbrev pub is_general : List ℕ → List Token → Bool
+is_general line tokens = is_prefixed line 71 tokens
+
 -- a letter, `^` and `#`
 abbrev pub is_hashed : List ℕ → ℕ → List Token → Bool
 is_hashed line letter tokens = is_prefixed line letter tokens && begins_with 35 (drop 2 tokens)

@@ -38,8 +38,10 @@ pub enum Directive {
     Even,
     /// `.ODD`: up to what is no multiple of two.
     Odd,
-    /// `.GLOBAL`, `.GLOBL`, `.WEAK`: names for other modules.
+    /// `.GLOBAL`, `.GLOBL`: names for other modules.
     Global,
+    /// `.WEAK`: names for other modules, or from them if one has them.
+    Weak,
     /// `.EXTERNAL`, `.EXTRN`: names of other modules.
     External,
     /// `.ENABLE`, `.ENABL`: functions of the assembler that are wanted.
@@ -53,8 +55,12 @@ pub enum Directive {
     /// `.RESTORE_PSECT`, `.RESTORE`: the section that was put aside last goes on.
     Restore,
     /// `.TITLE`, `.SBTTL`, `.SUBTITLE`, `.IDENT`, `.PAGE`, `.LIST`, `.NLIST`, `.SHOW`, `.NOSHOW`, `.CROSS`, `.NOCROSS`, `.DEBUG`,
-    /// `.LIBRARY`, `.MCALL`, `.LINK`, `.PRINT`, `.WARN`: nothing in the module.
+    /// `.LIBRARY`, `.MCALL`, `.LINK`, `.TRANSFER`, `.PRINT`, `.WARN`: nothing in the module.
     Listing,
+    /// `.NTYPE`: a name is assigned how an operand is addressed.
+    OperandType,
+    /// `.ERROR`: the source is wrong here.
+    Error,
     /// `.END`: where the program begins.
     End,
 }
@@ -110,7 +116,7 @@ fn all_directives() -> &'static [Named; 33]
 
 /// Those of one dialect alone.
 #[rattlefmt::skip]
-static FURTHER_DIRECTIVES: [Named; 30] = [
+static FURTHER_DIRECTIVES: [Named; 33] = [
     Named { name: ".ASCID", directive: Directive::DescribedText },
     Named { name: ".OCTA", directive: Directive::Data(DataKind::Octaword) },
     Named { name: ".BLKO", directive: Directive::Space(DataKind::Octaword) },
@@ -122,8 +128,9 @@ static FURTHER_DIRECTIVES: [Named; 30] = [
     Named { name: ".REF2", directive: Directive::Reference(Size::W) },
     Named { name: ".REF4", directive: Directive::Reference(Size::L) },
     Named { name: ".REF8", directive: Directive::Reference(Size::Q) },
+    Named { name: ".NTYPE", directive: Directive::OperandType },
     Named { name: ".ODD", directive: Directive::Odd },
-    Named { name: ".WEAK", directive: Directive::Global },
+    Named { name: ".WEAK", directive: Directive::Weak },
     Named { name: ".ENABLE", directive: Directive::Enable },
     Named { name: ".ENABL", directive: Directive::Enable },
     Named { name: ".DISABLE", directive: Directive::Disable },
@@ -139,11 +146,13 @@ static FURTHER_DIRECTIVES: [Named; 30] = [
     Named { name: ".LIBRARY", directive: Directive::Listing },
     Named { name: ".MCALL", directive: Directive::Listing },
     Named { name: ".LINK", directive: Directive::Listing },
+    Named { name: ".TRANSFER", directive: Directive::Listing },
     Named { name: ".PRINT", directive: Directive::Listing },
     Named { name: ".WARN", directive: Directive::Listing },
+    Named { name: ".ERROR", directive: Directive::Error },
 ];
 
-fn all_further_directives() -> &'static [Named; 30]
+fn all_further_directives() -> &'static [Named; 33]
     ensures { map named result.now ≡ further_directives }
 {
     &FURTHER_DIRECTIVES
@@ -204,6 +213,8 @@ pub enum Attribute {
     Align(u8),
     /// `WRT`, `NOWRT`: whether it may be written.
     Write(bool),
+    /// `ABS`, `REL`: whether it is absolute.
+    Absolute(bool),
     /// It is read, and changes nothing.
     Ignored,
 }
@@ -231,7 +242,7 @@ static ATTRIBUTES: [NamedAttribute; 21] = [
     NamedAttribute { name: "SHR", attribute: Attribute::Ignored },
     NamedAttribute { name: "NOSHR", attribute: Attribute::Ignored },
     NamedAttribute { name: "CON", attribute: Attribute::Ignored },
-    NamedAttribute { name: "REL", attribute: Attribute::Ignored },
+    NamedAttribute { name: "REL", attribute: Attribute::Absolute(false) },
     NamedAttribute { name: "LCL", attribute: Attribute::Ignored },
     NamedAttribute { name: "GBL", attribute: Attribute::Ignored },
     NamedAttribute { name: "USR", attribute: Attribute::Ignored },

@@ -17,7 +17,7 @@ mod tokens;
 
 pub use directives::{Attribute, Directive, attribute_named, directive_named};
 pub use items::{Item, Piece, is_local, name_alone, pieces, read_item};
-pub use modes::{Mode, Written, operand};
+pub use modes::{Mode, Written, is_general, operand};
 pub use operators::parts;
 pub use reading::{Body, Label, Statement, read_statement};
 pub use registers::register_named;

@@ -2,7 +2,7 @@
 
 ghost use Rattle.std.specs.Prelude.{◌≡◌, ◌<◌, ◌≤◌, ◌-◌, ◌+◌, true, [], All, IfSome, length};
 ghost use Rattle.vax_lex.specs.Tokens.{IsTokenOf};
-ghost use Rattle.vax_asm_statement.specs.Modes.{register_token, between, enclosed_last, register_deferred, incremented, decremented, register_alone, letter_of, prefix_letter, size_named, size_before, addressed, perhaps_sized, deferred_form, is_prefixed, is_hashed, register_form, direct_form, unindexed, operand_of, form_seen, seen};
+ghost use Rattle.vax_asm_statement.specs.Modes.{register_token, between, enclosed_last, register_deferred, incremented, decremented, register_alone, letter_of, prefix_letter, size_named, size_before, addressed, perhaps_sized, deferred_form, is_prefixed, is_general, is_hashed, register_form, direct_form, unindexed, operand_of, form_seen, seen};
 
 use crate::registers::register_named;
 use crate::tokens::{begins_with, is_mark, is_name_token, text_of};
@@ -302,6 +302,14 @@ fn is_prefixed(line: &[u8], letter: u8, tokens: &[Token]) -> bool
         Some(found) => found == letter,
         None => false,
     }
+}
+
+/// Whether an operand is `G^e`, perhaps with an index.
+pub fn is_general(line: &[u8], tokens: &[Token]) -> bool
+    requires { All (IsTokenOf line.now) tokens.now }
+    ensures { result ≡ is_general line.now tokens.now }
+{
+    is_prefixed(line, b'G', tokens)
 }
 
 /// Whether an operand begins with this letter, a `^` and a `#`.

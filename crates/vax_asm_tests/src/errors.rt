@@ -48,6 +48,7 @@ fn tells_faults_by_their_kinds(rt: HostRuntime) -> Result<(), Fail> {
         ),
         (FaultKind::Lines, "more than 100,000 expanded lines"),
         (FaultKind::Large, "a section or the module is too long"),
+        (FaultKind::Message, "the source says that it is wrong here"),
     ];
     test_texts(&rt, rt.alloc(), &rows)
 }
@@ -96,8 +97,9 @@ fn tells_errors_of_modules(rt: HostRuntime) -> Result<(), Fail> {
     let sections = [
         (
             Refusal::Conflict,
-            "the section has another alignment or protection",
+            "the section has another alignment or protection, or is absolute where it wasn't",
         ),
+        (Refusal::Absolute, "an absolute section holds no data"),
         (Refusal::TooLong, "a section or a module is too long"),
         (Refusal::NoMemory, "out of memory"),
     ];

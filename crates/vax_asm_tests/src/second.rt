@@ -11,6 +11,7 @@ use std::rc::Rc;
 use std::test::Fail;
 use vax_asm_encode::{Base, DataKind, Operand, may_stand};
 use vax_asm_first::{Assignment, Content, Fixup, Origin, Standing, Told, Transfer, filling_of};
+use vax_asm_scope::Linkage;
 use vax_asm_second::*;
 use vax_asm_sections::{Attributes, Piece};
 use vax_dialect::Dialect;
@@ -164,6 +165,7 @@ fn put_operands(standing: &mut Standing, alloc: Global) -> Result<(), Fail> {
     let attributes = Attributes {
         align: Some(2),
         write: Some(false),
+        absolute: None,
     };
     standing.layout.select(alloc, b"CODE", attributes)?;
     let relative = Operand::Memory(Base::Relative(Narrow::L));
@@ -206,8 +208,8 @@ fn links_operands(rt: HostRuntime) -> Result<(), Fail> {
 /// A module with `M::` and `.END X`, where X is defined nowhere and told to be global.
 fn with_names(alloc: Global) -> Result<Module, Fail> {
     let mut standing = branch_to_m(alloc)?;
-    standing.scope.make_global(alloc, b"M")?;
-    standing.scope.make_global(alloc, b"X")?;
+    standing.scope.link(alloc, b"M", Linkage::Global)?;
+    standing.scope.link(alloc, b"X", Linkage::Global)?;
     let definition = standing.scope.appear(alloc, b"X")?;
     standing.transfer = Some(Transfer {
         name: b"X".to_vec(alloc)?,
@@ -225,7 +227,7 @@ fn tells_names(rt: HostRuntime) -> Result<(), Fail> {
     assert!(rt; globals[0].value == M);
     let externals = module.externals.as_slice();
     assert!(rt; externals.len() == 1);
-    assert!(rt; externals[0].as_slice() == b"X".as_slice());
+    assert!(rt; externals[0].name.as_slice() == b"X".as_slice());
     let x = Value::External {
         index: 0,
         offset: 0,

@@ -42,17 +42,17 @@ pub files_done : {All : Text → Type 0} (dialect : Dialect) (preludes : List Pr
 files_done dialect preludes names files i stop before e h all = files_done_by dialect preludes names files i before (past (length names) (length files) i stop e h) all
 
 -- the remarks on one more file, and on no more
-pub remark_more : {All : Text → Type 0} (asked : Asked) (preludes : List Prelude) (names : List (Bor Text)) (files : List (Vec ℕ)) (i : ℕ) (n : Bor Text) (f : Vec ℕ) (before between : Text) → i < length names → i < length files → n ≡ slice_index_or names i n → f ≡ slice_index_or files i f → IsFileRemarked asked (record { preludes = preludes; name = n.now }) f.items before between
-    → ((after : Text) → AreRemarked asked (titles_of preludes (drop i names)) (texts (drop i files)) before after → All after) → (after : Text) → AreRemarked asked (titles_of preludes (drop (i + 1) names)) (texts (drop (i + 1) files)) between after → All after
-remark_more asked preludes names files i n f before between hn hf en ef h all after more = all after (rw (here names i n hn en, here files i f hf ef) (between, h, more))
+pub remark_more : {All : Text → Type 0} (dialect : Dialect) (asked : Asked) (preludes : List Prelude) (names : List (Bor Text)) (files : List (Vec ℕ)) (i : ℕ) (n : Bor Text) (f : Vec ℕ) (before between : Text) → i < length names → i < length files → n ≡ slice_index_or names i n → f ≡ slice_index_or files i f → IsFileRemarked dialect asked (record { preludes = preludes; name = n.now }) f.items before between
+    → ((after : Text) → AreRemarked dialect asked (titles_of preludes (drop i names)) (texts (drop i files)) before after → All after) → (after : Text) → AreRemarked dialect asked (titles_of preludes (drop (i + 1) names)) (texts (drop (i + 1) files)) between after → All after
+remark_more dialect asked preludes names files i n f before between hn hf en ef h all after more = all after (rw (here names i n hn en, here files i f hf ef) (between, h, more))
 
-none_remarked : (asked : Asked) (names : List Title) (before : Text) → AreRemarked asked names [] before before
-none_remarked asked [] before = refl
-none_remarked asked (name ∷ names) before = refl
+none_remarked : (dialect : Dialect) (asked : Asked) (names : List Title) (before : Text) → AreRemarked dialect asked names [] before before
+none_remarked dialect asked [] before = refl
+none_remarked dialect asked (name ∷ names) before = refl
 
-remarks_done_by : {All : Text → Type 0} (asked : Asked) (preludes : List Prelude) (names : List (Bor Text)) (files : List (Vec ℕ)) (i : ℕ) (before : Text) → (length names ≤ i) ⊎ (length files ≤ i) → ((after : Text) → AreRemarked asked (titles_of preludes (drop i names)) (texts (drop i files)) before after → All after) → All before
-remarks_done_by asked preludes names files i before (inl few) all = all before (rw (drop_all i names few) refl)
-remarks_done_by asked preludes names files i before (inr few) all = all before (rw (drop_all i files few) (none_remarked asked (titles_of preludes (drop i names)) before))
+remarks_done_by : {All : Text → Type 0} (dialect : Dialect) (asked : Asked) (preludes : List Prelude) (names : List (Bor Text)) (files : List (Vec ℕ)) (i : ℕ) (before : Text) → (length names ≤ i) ⊎ (length files ≤ i) → ((after : Text) → AreRemarked dialect asked (titles_of preludes (drop i names)) (texts (drop i files)) before after → All after) → All before
+remarks_done_by dialect asked preludes names files i before (inl few) all = all before (rw (drop_all i names few) refl)
+remarks_done_by dialect asked preludes names files i before (inr few) all = all before (rw (drop_all i files few) (none_remarked dialect asked (titles_of preludes (drop i names)) before))
 
-pub remarks_done : {All : Text → Type 0} (asked : Asked) (preludes : List Prelude) (names : List (Bor Text)) (files : List (Vec ℕ)) (i stop : ℕ) (before : Text) → stop ≡ min (length names) (length files) → stop ≤ i → ((after : Text) → AreRemarked asked (titles_of preludes (drop i names)) (texts (drop i files)) before after → All after) → All before
-remarks_done asked preludes names files i stop before e h all = remarks_done_by asked preludes names files i before (past (length names) (length files) i stop e h) all
+pub remarks_done : {All : Text → Type 0} (dialect : Dialect) (asked : Asked) (preludes : List Prelude) (names : List (Bor Text)) (files : List (Vec ℕ)) (i stop : ℕ) (before : Text) → stop ≡ min (length names) (length files) → stop ≤ i → ((after : Text) → AreRemarked dialect asked (titles_of preludes (drop i names)) (texts (drop i files)) before after → All after) → All before
+remarks_done dialect asked preludes names files i stop before e h all = remarks_done_by dialect asked preludes names files i before (past (length names) (length files) i stop e h) all

@@ -1,5 +1,5 @@
 -- What the linker found, as text: the files that are concerned, and the lines where it shows.
-use Rattle.std.specs.Prelude.{ℕ, ◌==◌, nat_le, Bool, false, if◌then◌else◌, List, [], ◌∷◌, ◌++◌, length, codes, decimal, Option, None, Some, is_some, Result, Ok, Err}
+use Rattle.std.specs.Prelude.{ℕ, ◌&&◌, ◌==◌, nat_le, not, Bool, false, if◌then◌else◌, List, [], ◌∷◌, ◌++◌, length, codes, decimal, Option, None, Some, is_some, Result, Ok, Err}
 use Rattle.std.specs.List.{filter, list_any}
 use Rattle.std.specs.Str.{bytes_eq}
 use Rattle.vax_asm.specs.Walk.{assembled}
@@ -25,9 +25,9 @@ files_of [] texts = []
 files_of (title ∷ titles) [] = []
 files_of (title ∷ titles) (text ∷ texts) = record { title = title; text = text } ∷ files_of titles texts
 
--- a module asks other files for a name, defines it for them, or says where the program begins
+-- a module asks other files for a name that must be there, defines it for them, or says where the program begins
 abbrev pub has_part : Role → (name : Text) → Module → Bool
-has_part Asks name m = list_any (bytes_eq name) m.externals
+has_part Asks name m = list_any (λ external. not external.weak && bytes_eq name external.name) m.externals
 has_part Defines name m = list_any (λ symbol. bytes_eq name symbol.name) m.globals
 has_part Begins name m = is_some m.transfer
 
@@ -47,29 +47,29 @@ abbrev pub or_else : Option ℕ → Option ℕ → Option ℕ
 or_else (Some line) other = Some line
 or_else None other = other
 
--- the line of a source where it does: where the name stands first, where it is defined, or where `.END` stands
-abbrev pub line_for : Role → (name source : Text) → Option ℕ
-line_for Asks name source = first_line Anywhere name source
-line_for Defines name source = or_else (first_line Definition name source) (first_line Anywhere name source)
-line_for Begins name source = first_line Anywhere (codes ".END") source
+-- the line of a source of a dialect where it does: where the name stands first, where it is defined, or where `.END` stands
+abbrev pub line_for : Dialect → Role → (name source : Text) → Option ℕ
+line_for dialect Asks name source = first_line dialect Anywhere name source
+line_for dialect Defines name source = or_else (first_line dialect Definition name source) (first_line dialect Anywhere name source)
+line_for dialect Begins name source = first_line dialect Anywhere (codes ".END") source
 
 -- a place: a file, and a line of it where one is known
 abbrev pub line_text : Title → Option ℕ → Text
 line_text title None = title.name
 line_text title (Some line) = name_at title line ++ codes ":" ++ decimal (number_at title line)
 
-unfoldable pub spot : Role → (name : Text) → File → Text
-spot role name file = line_text file.title (line_for role name file.text)
+unfoldable pub spot : Dialect → Role → (name : Text) → File → Text
+spot dialect role name file = line_text file.title (line_for dialect role name file.text)
 
 -- the place of the first of these files
-abbrev pub first_spot : Role → (name : Text) → List File → Text
-first_spot role name [] = []
-first_spot role name (file ∷ files) = spot role name file ++ codes ": "
+abbrev pub first_spot : Dialect → Role → (name : Text) → List File → Text
+first_spot dialect role name [] = []
+first_spot dialect role name (file ∷ files) = spot dialect role name file ++ codes ": "
 
 -- a name that no file defines, at the first file that asks for it
 unfoldable pub undefined_text : Dialect → (name : Text) → List File → Text
 undefined_text dialect name files =
-    first_spot Asks name (those dialect Asks name files) ++ codes "error: nothing defines the name " ++ name ++ codes "\n"
+    first_spot dialect Asks name (those dialect Asks name files) ++ codes "error: nothing defines the name " ++ name ++ codes "\n"
 
 -- what is there a second time
 abbrev pub twice_words : Role → (name : Text) → Text
@@ -78,17 +78,17 @@ twice_words Defines name = codes "a second definition of the name " ++ name
 twice_words Begins name = codes "a second beginning of the program"
 
 -- that, at the second of these files, with the place in the first
-abbrev pub second_text : Role → (name : Text) → List File → Text
-second_text role name [] = codes "error: " ++ twice_words role name ++ codes "\n"
-second_text role name (first ∷ []) = codes "error: " ++ twice_words role name ++ codes "\n"
-second_text role name (first ∷ second ∷ more) =
-    spot role name second ++ codes ": error: " ++ twice_words role name ++ codes "; the first is at " ++ spot role name first ++ codes "\n"
+abbrev pub second_text : Dialect → Role → (name : Text) → List File → Text
+second_text dialect role name [] = codes "error: " ++ twice_words role name ++ codes "\n"
+second_text dialect role name (first ∷ []) = codes "error: " ++ twice_words role name ++ codes "\n"
+second_text dialect role name (first ∷ second ∷ more) =
+    spot dialect role name second ++ codes ": error: " ++ twice_words role name ++ codes "; the first is at " ++ spot dialect role name first ++ codes "\n"
 
 -- a name that two files define; where no two do, a second file that says where the program begins
 unfoldable pub twice_text : Dialect → (name : Text) → List File → Text
 twice_text dialect name files =
-    if nat_le 2 (length (those dialect Defines name files)) then second_text Defines name (those dialect Defines name files)
-    else second_text Begins name (those dialect Begins name files)
+    if nat_le 2 (length (those dialect Defines name files)) then second_text dialect Defines name (those dialect Defines name files)
+    else second_text dialect Begins name (those dialect Begins name files)
 
 -- what else the linker found, in words
 unfoldable pub link_words : ℕ → Text

@@ -19,15 +19,15 @@ AreTold dialect [] files before after = after ≡ before
 AreTold dialect (title ∷ titles) [] before after = after ≡ before
 AreTold dialect (title ∷ titles) (file ∷ files) before after = (between : Text) × IsFileTold dialect title file before between × AreTold dialect titles files between after
 
--- the remarks on one file that are asked for were added, if it is a source
-abbrev pub IsFileRemarked : Asked → Title → (file before after : Text) → Type 0
-IsFileRemarked asked title file before after = ((is_linked file ≡ true) × (after ≡ before)) ⊎ ((is_linked file ≡ false) × IsRemarked title file asked before after)
+-- the remarks on one file of a dialect that are asked for were added, if it is a source
+abbrev pub IsFileRemarked : Dialect → Asked → Title → (file before after : Text) → Type 0
+IsFileRemarked dialect asked title file before after = ((is_linked file ≡ true) × (after ≡ before)) ⊎ ((is_linked file ≡ false) × IsRemarked dialect title file asked before after)
 
 -- those on all sources among these files, in order
-abbrev pub AreRemarked : Asked → List Title → (files : List Text) → (before after : Text) → Type 0
-AreRemarked asked [] files before after = after ≡ before
-AreRemarked asked (title ∷ titles) [] before after = after ≡ before
-AreRemarked asked (title ∷ titles) (file ∷ files) before after = (between : Text) × IsFileRemarked asked title file before between × AreRemarked asked titles files between after
+abbrev pub AreRemarked : Dialect → Asked → List Title → (files : List Text) → (before after : Text) → Type 0
+AreRemarked dialect asked [] files before after = after ≡ before
+AreRemarked dialect asked (title ∷ titles) [] before after = after ≡ before
+AreRemarked dialect asked (title ∷ titles) (file ∷ files) before after = (between : Text) × IsFileRemarked dialect asked title file before between × AreRemarked dialect asked titles files between after
 
 unfoldable pub asked_with : (bare unused : Bool) → (name : Text) → Asked
 asked_with bare unused name = record { bare = bare; unused = unused; name = name }
@@ -97,6 +97,6 @@ AreErrorsOf dialect titles files (InPrelude file line kind) text = AreTold diale
 -- What is told of files of a program, which may be one for the bare machine: why they give none, if they give none, and then remarks on their sources. The
 -- text of a source begins with what stands before it.
 abbrev pub Tells : Dialect → (bare : Bool) → List Title → (files : List Text) → Option Refusal → Text → Type 0
-Tells dialect bare titles files None text = AreRemarked (asked_of bare None) titles files [] text
+Tells dialect bare titles files None text = AreRemarked dialect (asked_of bare None) titles files [] text
 Tells dialect bare titles files (Some refusal) text =
-    (errors : Text) × AreErrorsOf dialect titles files refusal errors × AreRemarked (asked_of bare (Some refusal)) titles files errors text
+    (errors : Text) × AreErrorsOf dialect titles files refusal errors × AreRemarked dialect (asked_of bare (Some refusal)) titles files errors text

@@ -9,8 +9,8 @@ ghost use Rattle.vax_program.specs.Program.{Source, modules_of};
 
 /// Where files are refused for a source, their errors begin with one on that line of that source.
 pub fn errors_begin_with_the_refusal()
-    ensures { (dialect : Dialect) → (titles : List Title) → (files : List (List ℕ)) → (before after : List ℕ)
-        → (file line kind : ℕ) → length files ≤ length titles →
+    ensures { (dialect : Dialect) → (titles : List Title) → (files : List (List ℕ))
+        → (before after : List ℕ) → (file line kind : ℕ) → length files ≤ length titles →
         AreTold dialect titles files before after →
         modules_of dialect 1 files ≡ Err (Source file line kind) →
         BeginsAtLine titles 1 file line before after }

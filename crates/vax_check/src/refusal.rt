@@ -57,28 +57,34 @@ fn push_line(out: &mut Vec<u8>, title: Title<'_>, line: Option<usize>) -> Result
 }
 
 /// The line where a name is defined; where none is, that on which it stands first.
-fn definition_line(alloc: Global, name: &[u8], source: &[u8]) -> Result<Option<usize>, NoMemory>
-    ensures { IfOk result (λ o. o ≡ line_for Role.Defines name.now source.now) }
+fn definition_line(
+    alloc: Global,
+    dialect: Dialect,
+    name: &[u8],
+    source: &[u8],
+) -> Result<Option<usize>, NoMemory>
+    ensures { IfOk result (λ o. o ≡ line_for dialect Role.Defines name.now source.now) }
 {
-    match first_line(alloc, source, name, Sought::Definition)? {
+    match first_line(alloc, dialect, source, name, Sought::Definition)? {
         Some(line) => Ok(Some(line)),
-        None => first_line(alloc, source, name, Sought::Anywhere),
+        None => first_line(alloc, dialect, source, name, Sought::Anywhere),
     }
 }
 
 /// The line of a source where its part shows.
 fn line_for(
     alloc: Global,
+    dialect: Dialect,
     role: Role,
     name: &[u8],
     source: &[u8],
 ) -> Result<Option<usize>, NoMemory>
-    ensures { IfOk result (λ o. o ≡ line_for role name.now source.now) }
+    ensures { IfOk result (λ o. o ≡ line_for dialect role name.now source.now) }
 {
     match role {
-        Role::Asks => first_line(alloc, source, name, Sought::Anywhere),
-        Role::Defines => definition_line(alloc, name, source),
-        Role::Begins => first_line(alloc, source, b".END", Sought::Anywhere),
+        Role::Asks => first_line(alloc, dialect, source, name, Sought::Anywhere),
+        Role::Defines => definition_line(alloc, dialect, name, source),
+        Role::Begins => first_line(alloc, dialect, source, b".END", Sought::Anywhere),
     }
 }
 
@@ -87,14 +93,15 @@ fn line_for(
 fn push_spot(
     alloc: Global,
     out: &mut Vec<u8>,
+    dialect: Dialect,
     role: Role,
     name: &[u8],
     file: Source<'_>,
 ) -> Result<(), NoMemory>
     ensures { OnOk result (out.new.items
-        ≡ out.old.items ++ spot role name.now (file_seen file.entry)) }
+        ≡ out.old.items ++ spot dialect role name.now (file_seen file.entry)) }
 {
-    let line = line_for(alloc, role, name, file.text)?;
+    let line = line_for(alloc, dialect, role, name, file.text)?;
     push_line(out, file.title, line)
 }
 
@@ -102,17 +109,18 @@ fn push_spot(
 fn push_first(
     alloc: Global,
     out: &mut Vec<u8>,
+    dialect: Dialect,
     role: Role,
     name: &[u8],
     files: &[Source<'_>],
 ) -> Result<(), NoMemory>
     ensures { OnOk result (out.new.items
-        ≡ out.old.items ++ first_spot role name.now (files_seen files.now)) }
+        ≡ out.old.items ++ first_spot dialect role name.now (files_seen files.now)) }
 {
     let Some(file) = files.first() else {
         return Ok(());
     };
-    push_spot(alloc, out, role, name, *file)?;
+    push_spot(alloc, out, dialect, role, name, *file)?;
     push(out, b": ")
 }
 
@@ -128,7 +136,7 @@ fn undefined_text(
 {
     let asking = those(alloc, dialect, Role::Asks, name, files)?;
     let mut out = Vec::new(alloc);
-    push_first(alloc, &mut out, Role::Asks, name, &asking)?;
+    push_first(alloc, &mut out, dialect, Role::Asks, name, &asking)?;
     push(&mut out, b"error: nothing defines the name ")?;
     push(&mut out, name)?;
     push(&mut out, b"\n")?;
@@ -152,11 +160,13 @@ fn push_twice(out: &mut Vec<u8>, role: Role, name: &[u8]) -> Result<(), NoMemory
 /// The error of what is there a second time.
 fn second_text(
     alloc: Global,
+    dialect: Dialect,
     role: Role,
     name: &[u8],
     files: &[Source<'_>],
 ) -> Result<Vec<u8>, NoMemory>
-    ensures { IfOk result (λ v. v.items ≡ second_text role name.now (files_seen files.now)) }
+    ensures { IfOk result
+        (λ v. v.items ≡ second_text dialect role name.now (files_seen files.now)) }
 {
     let mut out = Vec::new(alloc);
     let [first, second, ..] = files else {
@@ -165,11 +175,11 @@ fn second_text(
         push(&mut out, b"\n")?;
         return Ok(out);
     };
-    push_spot(alloc, &mut out, role, name, *second)?;
+    push_spot(alloc, &mut out, dialect, role, name, *second)?;
     push(&mut out, b": error: ")?;
     push_twice(&mut out, role, name)?;
     push(&mut out, b"; the first is at ")?;
-    push_spot(alloc, &mut out, role, name, *first)?;
+    push_spot(alloc, &mut out, dialect, role, name, *first)?;
     push(&mut out, b"\n")?;
     Ok(out)
 }
@@ -186,10 +196,10 @@ fn twice_text(
 {
     let defining = those(alloc, dialect, Role::Defines, name, files)?;
     if defining.len() >= 2 {
-        return second_text(alloc, Role::Defines, name, &defining);
+        return second_text(alloc, dialect, Role::Defines, name, &defining);
     }
     let beginning = those(alloc, dialect, Role::Begins, name, files)?;
-    second_text(alloc, Role::Begins, name, &beginning)
+    second_text(alloc, dialect, Role::Begins, name, &beginning)
 }
 
 /// Appends the name of a file that stands alone.

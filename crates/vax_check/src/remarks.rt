@@ -21,7 +21,7 @@ fn push_file(
     file: Source<'_>,
     wanted: Wanted<'_>,
 ) -> Result<(), NoMemory>
-    ensures { OnOk result (IsFileRemarked (asked_by wanted.entry)
+    ensures { OnOk result (IsFileRemarked file.entry.dialect (asked_by wanted.entry)
         (title_seen file.entry.title) file.entry.text.now out.old.items out.new.items) }
 {
     if is_linked(file.text) {
@@ -39,7 +39,7 @@ fn push_named(
     text: &[u8],
     wanted: Wanted<'_>,
 ) -> Result<(), NoMemory>
-    ensures { OnOk result (IsFileRemarked (asked_by wanted.entry)
+    ensures { OnOk result (IsFileRemarked dialect (asked_by wanted.entry)
         (title_seen title.entry) text.now out.old.items out.new.items) }
 {
     let file = Source {
@@ -58,7 +58,7 @@ pub(crate) fn push_each(
     files: Files<'_>,
     wanted: Wanted<'_>,
 ) -> Result<(), NoMemory>
-    ensures { OnOk result (AreRemarked (asked_by wanted.entry)
+    ensures { OnOk result (AreRemarked files.entry.dialect (asked_by wanted.entry)
         (titles_of (preludes_seen files.entry.preludes.now) files.entry.names.now)
         (texts_seen files.entry.texts.now) out.old.items out.new.items) }
 {

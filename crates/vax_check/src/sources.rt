@@ -1,6 +1,6 @@
 // The sources that a refusal of the linker concerns.
 
-ghost use Rattle.std.specs.Prelude.{◌≡◌, ◌++◌, ◌∷◌, [], IfOk, OnOk};
+ghost use Rattle.std.specs.Prelude.{◌≡◌, ◌&&◌, ◌++◌, ◌∷◌, [], IfOk, OnOk, not};
 ghost use Rattle.std.specs.List.{list_any};
 ghost use Rattle.std.specs.Str.{bytes_eq};
 ghost use Rattle.vax_check.specs.Linking.{files_of, has_part, plays, those};
@@ -14,7 +14,7 @@ use std::alloc::Global;
 use vax_asm::{AsmError, assemble};
 use vax_asm_errors::{Source, Title};
 use vax_dialect::Dialect;
-use vax_module::{Bytes, Module, Symbol};
+use vax_module::{ExternalName, Module, Symbol};
 use vax_space::NoMemory;
 
 /// The part that a source has in a refusal.
@@ -28,12 +28,13 @@ pub(crate) enum Role {
     Begins,
 }
 
-/// Whether a name is among these.
-fn is_among(names: &[Bytes], name: &[u8]) -> bool
-    ensures { result ≡ list_any (bytes_eq name.now) names.now }
+/// Whether a name is among these, and must be defined.
+fn is_needed(externals: &[ExternalName], name: &[u8]) -> bool
+    ensures { result ≡ list_any (λ external. not external.weak && bytes_eq name.now external.name)
+        externals.now }
 {
-    for other in names {
-        if name == other.as_slice() {
+    for external in externals {
+        if !external.weak && name == external.name.as_slice() {
             return true;
         }
     }
@@ -57,7 +58,7 @@ fn has_part(role: Role, name: &[u8], module: &Module) -> bool
     ensures { result ≡ has_part role name.now module.now }
 {
     match role {
-        Role::Asks => is_among(module.externals.as_slice(), name),
+        Role::Asks => is_needed(module.externals.as_slice(), name),
         Role::Defines => is_named(module.globals.as_slice(), name),
         Role::Begins => module.transfer.is_some(),
     }

@@ -182,3 +182,49 @@ fn sources_of_the_larger_dialect_have_its_errors(rt: HostRuntime) -> Result<(), 
     }
     Ok(())
 }
+
+#[test]
+fn a_line_with_a_fault_defines_nothing(rt: HostRuntime) -> Result<(), Fail> {
+    let row = Row {
+        source: "A: FROB\nA: NOP\nA: NOP\n",
+        told: "a.mar:1:4: error: 2: no instruction, directive or macro has this name, or `.` is assigned to: `FROB`\nA: FROB\n   ^\na.mar:3:1: error: 6: a name is defined twice: `A` stands on line 2 already\nA: NOP\n^\n",
+    };
+    assert!(rt; tells(&rt, row)?);
+    Ok(())
+}
+
+#[test]
+fn a_source_says_that_it_is_wrong(rt: HostRuntime) -> Result<(), Fail> {
+    let rows = [
+        Row {
+            source: " .ERROR 1 ;  X is too large \n",
+            told: "a.mar:1:2: error: 12: X is too large\n .ERROR 1 ;  X is too large \n ^\n",
+        },
+        Row {
+            source: "A: .error\n",
+            told: "a.mar:1:4: error: 12: the source says that it is wrong here\nA: .error\n   ^\n",
+        },
+        Row {
+            source: " .IF EQ 1\n .ERROR ; no\n .ENDC\n",
+            told: "",
+        },
+        Row {
+            source: " .MACRO M X\n .IF GT X-3\n .ERROR ; X is above 3\n .ENDC\n .ENDM\n  M 3\n  M 4\n",
+            told: "a.mar:7:3: error: 12: 4 is above 3\n  M 4\n  ^\na.mar:7: in the expansion of macro M, its line 2:  .ERROR ; 4 is above 3\n",
+        },
+        // behind `.ASCID` stands a text, whatever is in it
+        Row {
+            source: " .ASCID 'a;b' X\n",
+            told: "a.mar:1:15: error: 1: a byte belongs to no token, or the line is too long: nothing begins with `X` here\n .ASCID 'a;b' X\n              ^\n",
+        },
+    ];
+    for row in rows {
+        assert!(rt; tells_in(&rt, Dialect::Vms, row)?);
+    }
+    let row = Row {
+        source: " .ERROR ; no\n",
+        told: "a.mar:1:2: error: 2: no instruction, directive or macro has this name, or `.` is assigned to: `.ERROR`\n .ERROR ; no\n ^\n",
+    };
+    assert!(rt; tells(&rt, row)?);
+    Ok(())
+}

@@ -13,14 +13,14 @@ struct Row<'a> {
     told: &'a str,
 }
 
-fn tells(rt: &HostRuntime, row: Row<'_>) -> Result<bool, Fail> {
+fn tells_in(rt: &HostRuntime, dialect: Dialect, row: Row<'_>) -> Result<bool, Fail> {
     let mut out = Vec::new(rt.alloc());
     let title = Title {
         preludes: &[],
         name: b"a.mar",
     };
     let source = Source {
-        dialect: Dialect::Vax,
+        dialect,
         title,
         text: row.source.as_bytes(),
     };
@@ -31,6 +31,10 @@ fn tells(rt: &HostRuntime, row: Row<'_>) -> Result<bool, Fail> {
     };
     push_remarks(rt.alloc(), &mut out, source, wanted)?;
     Ok(out.as_slice() == row.told.as_bytes())
+}
+
+fn tells(rt: &HostRuntime, row: Row<'_>) -> Result<bool, Fail> {
+    tells_in(rt, Dialect::Vax, row)
 }
 
 #[test]
@@ -177,5 +181,47 @@ fn a_hundred_remarks_are_told(rt: HostRuntime) -> Result<(), Fail> {
             b"a.mar:34:8: warning: `R16` is a name and no register\n ADDL3 R16,R17,R18\n       ^\n"
         )
     );
+    Ok(())
+}
+
+#[test]
+fn messages_of_a_source_are_told(rt: HostRuntime) -> Result<(), Fail> {
+    let rows = [
+        // before the other remarks, with the words of the comment or words of their own
+        Row {
+            source: " CLRL R16\n .WARN 1 ;  take care \nA: .print\n",
+            bare: false,
+            unused: false,
+            name: "",
+            told: "a.mar:2:2: warning: take care\n .WARN 1 ;  take care \n ^\na.mar:3:4: note: the source gives a message here\nA: .print\n   ^\na.mar:1:7: warning: `R16` is a name and no register\n CLRL R16\n      ^\n",
+        },
+        // one that a condition leaves out, and one with a fault
+        Row {
+            source: " .IF EQ 1\n .WARN ; no\n .IFF\n .WARN\n .ENDC\nA: NOP\nA: .PRINT ; no\n",
+            bare: false,
+            unused: false,
+            name: "",
+            told: "a.mar:4:2: warning: the source gives a warning here\n .WARN\n ^\n",
+        },
+        // what a macro says, where it is called
+        Row {
+            source: " .MACRO M X\n NOP\n .PRINT ; this is X\n .ENDM\n  M R1\n",
+            bare: false,
+            unused: false,
+            name: "",
+            told: "a.mar:5:3: note: this is R1\n  M R1\n  ^\na.mar:5: in the expansion of macro M, its line 2:  .PRINT ; this is R1\n",
+        },
+        // a text behind `.ASCID` has no names
+        Row {
+            source: " .ASCID /R16/\n",
+            bare: false,
+            unused: false,
+            name: "",
+            told: "",
+        },
+    ];
+    for row in rows {
+        assert!(rt; tells_in(&rt, Dialect::Vms, row)?);
+    }
     Ok(())
 }

@@ -22,7 +22,7 @@ pub use name::Name;
 pub use programs::Programs;
 pub use refusal::refuse;
 pub use resume::{load_saved, resume_run};
-pub use run::{prepare, report, run_programs};
+pub use run::{begin, prepare, report, run_programs};
 pub use saving::{save_and_report, save_run};
 pub use session::hold_session;
 pub use status::{Part, Status};

@@ -31,7 +31,7 @@ use vax_outside::{Failed, PageFile, Sink};
 use vax_pager::PageFault;
 use vax_report::{Dump, Last, write_report};
 use vax_sched::{SchedError, Schedule, read};
-use vax_space::Space;
+use vax_space::{NoMemory, Space};
 
 /// Writes the report on a machine, with the memory that it is to show, and answers so.
 pub fn report<K: Sink>(
@@ -181,7 +181,31 @@ pub fn prepare(
     }
 }
 
-/// The same, and room for the memory that the report is to show.
+/// A machine at the start of programs, with so many frames. The error is want of memory.
+pub fn begin(
+    alloc: Global,
+    programs: &Programs,
+    input: Vec<u8>,
+    frames: u32,
+) -> Result<Machine, NoMemory>
+    requires sound { AreSound programs.now }
+    requires input { length input.items ≤ file_limit }
+    requires some { 64 ≤ frames }
+    requires few { frames ≤ 32768 }
+    ensures { IfOk result (λ machine. IsPrepared (engine machine) frames
+        (Start programs.now.system programs.now.user input.items)
+        (start_areas programs.now.system programs.now.user)) }
+{
+    let Ok((space, core)) = start(alloc, &programs.system, programs.user.as_ref()) else {
+        return Err(NoMemory);
+    };
+    match Machine::new(alloc, space, core, input, frames) {
+        Ok(machine) => Ok(machine),
+        Err(_) => Err(NoMemory),
+    }
+}
+
+/// The same with the schedule, and room for the memory that the report is to show.
 pub(crate) fn prepare_run(
     alloc: Global,
     programs: &Programs,

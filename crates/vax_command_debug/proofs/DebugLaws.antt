@@ -25,7 +25,7 @@ use Rattle.vax_debug_session.specs.Failure.TheVariants as failure
 use Rattle.vax_debug_session.specs.Acting.{IsToldInPart}
 use Rattle.vax_debug_session.specs.Exchanges.{Exchange}
 use Rattle.vax_debug_session.specs.Holding.{Holds, IsCutShort, Stage, Terms, act_of, after_line, held_after, prompt, replied, stage, transcript}
-use Rattle.vax_debug_session.specs.Plans.{no_plan}
+use Rattle.vax_debug_session.specs.Plan.{Plan}
 use Rattle.vax_debug_session.specs.declared.SessionEnd.{SessionEnd}
 use Rattle.vax_debug_session.specs.declared.SessionEnd.TheVariants as end
 use Rattle.vax_cli.specs.Words.{Options, Text}
@@ -40,40 +40,44 @@ use Rattle.vax_command.specs.Status.{refusal_growth}
 use Rattle.vax_command.specs.declared.status.Status.{Status}
 use Rattle.vax_command.specs.declared.status.Status.TheVariants.{Done, LineFault, NoMemory, PageFault, Turns, WriteFault}
 use Rattle.vax_command.proofs.RunLaws.{ends_after, reported_at}
-use Rattle.vax_command_debug.specs.Course.{Causes, SavesBy, SavesHere, Spot, Went, WentFrom, answer_of, begun, saving_output, spot_at, state_unless, wrote_at}
+use Rattle.vax_command_debug.specs.Course.{Causes, RunFrom, SavesBy, SavesHere, Spot, Went, answer_of, begun, saving_output, spot_at, state_unless, wrote_at}
 use Rattle.vax_command_debug.specs.Debugging.{Debugged, Given, terms_of}
 use Rattle.vax_image.specs.Start.{Start}
 
 -- all that was sent, from a start that has sent nothing
-sent_all : (start output sent : List ℕ) → start ≡ [] → output ≡ start ++ sent → sent ≡ output
+pub sent_all : (start output sent : List ℕ) → start ≡ [] → output ≡ start ++ sent → sent ≡ output
 sent_all start output sent none is = sym (is ∙ ap (λ o. o ++ sent) none)
 
--- how a session went from its start, whatever its page file told before, and how its call ends
-abbrev pub WentSo : Option BlockFile → Outside → Change (List Text) → Flat → Terms → Status → Type 0
-WentSo told outside lines start g result = EndsSo outside.sink (WentFrom told outside lines start g) result
+-- a machine at its start makes the session that begins there
+pub first_here : (m : Engine) (frames : ℕ) (start : Flat) (file : BlockFile) (sink : Option Channels) → IsFresh m frames start → IsBetween m → IsHere (record { flat = start; channels = sink }) (opening start) [] (scene m (Some file) sink)
+first_here m frames start file sink f between = record {
+  at = record {
+    steps = ap (λ (p : Paged). p.steps) f.begins;
+    means = f.means file;
+    sent = [];
+    output = sym (append-nil start.output);
+    wrote = grew_nothing sink;
+  };
+  between = between;
+}
+
+-- how a run went from its start, whatever its page file told before, and how its call ends
+abbrev pub WentSo : Option BlockFile → Outside → Change (List Text) → Flat → Terms → Plan → Status → Type 0
+WentSo told outside lines start g breaks result = EndsSo outside.sink (RunFrom told outside lines start g breaks) result
 
 -- where it was held
 abbrev pub stage_at : Outside → Change (List Text) → Engine → Option BlockFile → Engine → Option Channels → Stage
 stage_at outside lines m told n between =
     stage (scene m told outside.sink.before.told) (scene n outside.pages.after.told between) lines.before.told lines.after.told
 
--- What is known of a session on a machine that starts so: what it sees of the outside, the machine it leaves.
-module _ (outside : Outside) (lines : Change (List Text)) (g : Terms) (m n : Engine) (frames : ℕ) (start : Flat) (f : IsFresh m frames start) (between : IsBetween m) where
+-- What is known of a run on a machine that starts so: what it sees of the outside, the machine it leaves.
+module _ (outside : Outside) (lines : Change (List Text)) (g : Terms) (breaks : Plan) (m n : Engine) (frames : ℕ) (start : Flat) (f : IsFresh m frames start) (between : IsBetween m) where
   abbrev origin : Origin
   origin = record { flat = start; channels = outside.sink.before.told }
 
   -- it begins there
   is_here : (file : BlockFile) → IsHere origin (opening start) [] (scene m (Some file) outside.sink.before.told)
-  is_here file = record {
-    at = record {
-      steps = ap (λ (p : Paged). p.steps) f.begins;
-      means = f.means file;
-      sent = [];
-      output = sym (append-nil start.output);
-      wrote = grew_nothing outside.sink.before.told;
-    };
-    between = between;
-  }
+  is_here file = first_here m frames start file outside.sink.before.told f between
 
   -- the sink behind it, and the answer
   module _ (mid : Seen Channels) (result : Status) (quiet : mid.faults.count ≡ outside.sink.before.faults.count) where
@@ -91,7 +95,7 @@ module _ (outside : Outside) (lines : Change (List Text)) (g : Terms) (m n : Eng
         (ends_after outside.sink.before mid outside.sink.after meant (writes (machine_at place).output replies) (only Report (machine_report n why [])) result grew quiet ends)
 
     -- the report on a session between two lines
-    told_here : (s : Session) (replies : List ℕ) (meant : Status) → IsHere origin s replies after → EndsFrom mid outside.sink.after meant (only Report (machine_report n (last_of n.ended) [])) result
+    pub told_here : (s : Session) (replies : List ℕ) (meant : Status) → IsHere origin s replies after → EndsFrom mid outside.sink.after meant (only Report (machine_report n (last_of n.ended) [])) result
         → Ends outside.sink meant (broken_off replies (At s.machine) s.steps (last_of s.machine.ending)) result
     told_here s replies meant here ends =
         let why = ap last_of (ap (λ (flat : Flat). flat.ending) here.at.means.processor.machine) in
@@ -99,8 +103,8 @@ module _ (outside : Outside) (lines : Change (List Text)) (g : Terms) (m n : Eng
         (told_behind (At s.machine) s.steps replies (last_of n.ended) meant here.at.sent here.at.steps here.at.means here.at.output here.at.wrote ends)
 
     -- where the page file doesn't tell its contents: the report behind what was written to Out and Report
-    untold : (e : SessionEnd) (meant : Status) (why : Last) → meant ≡ answer_of e → (h : Holds g no_plan e (stage_at outside lines m None n mid.told)) → Causes e outside lines → OnlyReplied outside.sink.before.told mid.told
-        → EndsFrom mid outside.sink.after meant (only Report (machine_report n why [])) result → WentSo None outside lines start g result
+    untold : (e : SessionEnd) (meant : Status) (why : Last) → meant ≡ answer_of e → (h : Holds g breaks e (stage_at outside lines m None n mid.told)) → Causes e outside lines → OnlyReplied outside.sink.before.told mid.told
+        → EndsFrom mid outside.sink.after meant (only Report (machine_report n why [])) result → WentSo None outside lines start g breaks result
     untold e meant why is h cause only_these ends =
         let text = only Report (machine_report n why []) in
         let wrote = writes only_these.sent only_these.replies in
@@ -112,12 +116,12 @@ module _ (outside : Outside) (lines : Change (List Text)) (g : Terms) (m n : Eng
         }
 
     -- a line asked for the end
-    pub quit : (told : Option BlockFile) → OnlyReplied outside.sink.before.told mid.told → Holds g no_plan end.Quit (stage_at outside lines m told n mid.told)
-        → EndsFrom mid outside.sink.after Done (only Report (machine_report n (last_of n.ended) [])) result → WentSo told outside lines start g result
+    pub quit : (told : Option BlockFile) → OnlyReplied outside.sink.before.told mid.told → Holds g breaks end.Quit (stage_at outside lines m told n mid.told)
+        → EndsFrom mid outside.sink.after Done (only Report (machine_report n (last_of n.ended) [])) result → WentSo told outside lines start g breaks result
     quit None only_these h ends = untold end.Quit Done (last_of n.ended) refl h tt only_these ends
     quit (Some file) only_these h ends =
-        let here : IsHere origin (held_after g (begun start) h.lines).session (transcript g (begun start) h.lines ++ []) after = h.goes origin (opening start) [] (is_here file) in
-        let spot = spot_at (held_after g (begun start) h.lines).session (transcript g (begun start) h.lines ++ []) in
+        let here : IsHere origin (held_after g (begun start breaks) h.lines).session (transcript g (begun start breaks) h.lines ++ []) after = h.goes origin (opening start) [] (is_here file) in
+        let spot = spot_at (held_after g (begun start breaks) h.lines).session (transcript g (begun start breaks) h.lines ++ []) in
         record {
           meant = Done;
           grown = wrote_at end.Quit spot;
@@ -171,7 +175,7 @@ module _ (outside : Outside) (lines : Change (List Text)) (g : Terms) (m n : Eng
       answer_so (inl is) behind = inl is
       answer_so (inr w) behind = inr (up w.0, w.1)
 
-      untold_saved : (now : Option BlockFile) → OnlyReplied outside.sink.before.told mid.told → Holds g no_plan end.Save (stage_at_file None now) → AnswersSave read Done status grown → WentSo None outside lines start g result
+      untold_saved : (now : Option BlockFile) → OnlyReplied outside.sink.before.told mid.told → Holds g breaks end.Save (stage_at_file None now) → AnswersSave read Done status grown → WentSo None outside lines start g breaks result
       untold_saved now only_these h a =
           let wrote = writes only_these.sent only_these.replies in
           record {
@@ -181,35 +185,35 @@ module _ (outside : Outside) (lines : Change (List Text)) (g : Terms) (m n : Eng
             ends = ends_after outside.sink.before mid outside.sink.after status wrote grown result only_these.grew quiet ends;
           }
 
-      told_saved : (file : BlockFile) (now : Option BlockFile) (h : Holds g no_plan end.Save (stage_at_file (Some file) now)) → SavesBy n.ended read n (At (held_after g (begun start) h.lines).session.machine) status grown → WentSo (Some file) outside lines start g result
+      told_saved : (file : BlockFile) (now : Option BlockFile) (h : Holds g breaks end.Save (stage_at_file (Some file) now)) → SavesBy n.ended read n (At (held_after g (begun start breaks) h.lines).session.machine) status grown → WentSo (Some file) outside lines start g breaks result
       told_saved file now h a =
-          let s = (held_after g (begun start) h.lines).session in
-          let replies = transcript g (begun start) h.lines in
+          let s = (held_after g (begun start breaks) h.lines).session in
+          let replies = transcript g (begun start breaks) h.lines in
           let here : IsHere origin s (replies ++ []) (scene n now mid.told) = h.goes origin (opening start) [] (is_here file) in
           let w = saves_here s replies now (subst (λ (z : List ℕ). IsHere origin s z (scene n now mid.told)) (append-nil replies) here) a in
           record { meant = w.meant; grown = w.grown; so = inr (record { given = h.lines; took = h.took; asked = h.asked; saves = w.so }); ends = w.ends }
 
     -- where the session is then, whatever the page file told
-    saved_at : (file : BlockFile) (now : Option BlockFile) (h : Holds g no_plan end.Save (stage_at_file (Some file) now)) → Means n now (At (held_after g (begun start) h.lines).session.machine)
+    saved_at : (file : BlockFile) (now : Option BlockFile) (h : Holds g breaks end.Save (stage_at_file (Some file) now)) → Means n now (At (held_after g (begun start breaks) h.lines).session.machine)
     saved_at file now h =
-        let here : IsHere origin (held_after g (begun start) h.lines).session (transcript g (begun start) h.lines ++ []) (scene n now mid.told) = h.goes origin (opening start) [] (is_here file) in
+        let here : IsHere origin (held_after g (begun start breaks) h.lines).session (transcript g (begun start breaks) h.lines ++ []) (scene n now mid.told) = h.goes origin (opening start) [] (is_here file) in
         here.at.means
 
     pub saved : (told now : Option BlockFile) (between_calls : Change Channels) (read : Change BlockFile) → between_calls.before ≡ mid → between_calls.after ≡ outside.sink.after → (HasFailed read → HasFailed outside.pages)
-        → OnlyReplied outside.sink.before.told mid.told → Holds g no_plan end.Save (stage_at_file told now)
-        → ((place : Place) → Means n now place → EndsSo between_calls (SavesBy n.ended read n place) result) → EndsSo between_calls (AnswersSave read Done) result → WentSo told outside lines start g result
+        → OnlyReplied outside.sink.before.told mid.told → Holds g breaks end.Save (stage_at_file told now)
+        → ((place : Place) → Means n now place → EndsSo between_calls (SavesBy n.ended read n place) result) → EndsSo between_calls (AnswersSave read Done) result → WentSo told outside lines start g breaks result
     saved None now c read begins stops up only_these h places answers = untold_saved read up answers.meant answers.grown (ends_between c begins stops answers.meant answers.grown answers.ends) now only_these h answers.so
     saved (Some file) now c read begins stops up only_these h places answers =
-        let w = places (At (held_after g (begun start) h.lines).session.machine) (saved_at file now h) in
+        let w = places (At (held_after g (begun start breaks) h.lines).session.machine) (saved_at file now h) in
         told_saved read up w.meant w.grown (ends_between c begins stops w.meant w.grown w.ends) file now h w.so
 
     -- no line was left
-    pub read_out : (told : Option BlockFile) → OnlyReplied outside.sink.before.told mid.told → Holds g no_plan end.Read (stage_at outside lines m told n mid.told)
-        → EndsFrom mid outside.sink.after Done (only Report (machine_report n (last_of n.ended) [])) result → WentSo told outside lines start g result
+    pub read_out : (told : Option BlockFile) → OnlyReplied outside.sink.before.told mid.told → Holds g breaks end.Read (stage_at outside lines m told n mid.told)
+        → EndsFrom mid outside.sink.after Done (only Report (machine_report n (last_of n.ended) [])) result → WentSo told outside lines start g breaks result
     read_out None only_these h ends = untold end.Read Done (last_of n.ended) refl h tt only_these ends
     read_out (Some file) only_these h ends =
-        let here : IsHere origin (held_after g (begun start) h.lines).session (transcript g (begun start) h.lines ++ prompt g.prompts) after = h.goes origin (opening start) [] (is_here file) in
-        let spot = spot_at (held_after g (begun start) h.lines).session (transcript g (begun start) h.lines ++ prompt g.prompts) in
+        let here : IsHere origin (held_after g (begun start breaks) h.lines).session (transcript g (begun start breaks) h.lines ++ prompt g.prompts) after = h.goes origin (opening start) [] (is_here file) in
+        let spot = spot_at (held_after g (begun start breaks) h.lines).session (transcript g (begun start breaks) h.lines ++ prompt g.prompts) in
         record {
           meant = Done;
           grown = wrote_at end.Read spot;
@@ -218,12 +222,12 @@ module _ (outside : Outside) (lines : Change (List Text)) (g : Terms) (m n : Eng
         }
 
     -- no more lines are counted
-    pub counted_out : (told : Option BlockFile) → OnlyReplied outside.sink.before.told mid.told → Holds g no_plan end.Lines (stage_at outside lines m told n mid.told)
-        → EndsFrom mid outside.sink.after Done (only Report (machine_report n (last_of n.ended) [])) result → WentSo told outside lines start g result
+    pub counted_out : (told : Option BlockFile) → OnlyReplied outside.sink.before.told mid.told → Holds g breaks end.Lines (stage_at outside lines m told n mid.told)
+        → EndsFrom mid outside.sink.after Done (only Report (machine_report n (last_of n.ended) [])) result → WentSo told outside lines start g breaks result
     counted_out None only_these h ends = untold end.Lines Done (last_of n.ended) refl h tt only_these ends
     counted_out (Some file) only_these h ends =
-        let here : IsHere origin (held_after g (begun start) h.lines).session (transcript g (begun start) h.lines ++ []) after = h.goes origin (opening start) [] (is_here file) in
-        let spot = spot_at (held_after g (begun start) h.lines).session (transcript g (begun start) h.lines ++ []) in
+        let here : IsHere origin (held_after g (begun start breaks) h.lines).session (transcript g (begun start breaks) h.lines ++ []) after = h.goes origin (opening start) [] (is_here file) in
+        let spot = spot_at (held_after g (begun start breaks) h.lines).session (transcript g (begun start breaks) h.lines ++ []) in
         record {
           meant = Done;
           grown = wrote_at end.Lines spot;
@@ -232,12 +236,12 @@ module _ (outside : Outside) (lines : Change (List Text)) (g : Terms) (m n : Eng
         }
 
     -- a line couldn't be read
-    pub unread : (told : Option BlockFile) → OnlyReplied outside.sink.before.told mid.told → HasFailed lines → Holds g no_plan end.LineFault (stage_at outside lines m told n mid.told)
-        → EndsFrom mid outside.sink.after LineFault (only Report (machine_report n (last_of n.ended) [])) result → WentSo told outside lines start g result
+    pub unread : (told : Option BlockFile) → OnlyReplied outside.sink.before.told mid.told → HasFailed lines → Holds g breaks end.LineFault (stage_at outside lines m told n mid.told)
+        → EndsFrom mid outside.sink.after LineFault (only Report (machine_report n (last_of n.ended) [])) result → WentSo told outside lines start g breaks result
     unread None only_these rose h ends = untold end.LineFault LineFault (last_of n.ended) refl h rose only_these ends
     unread (Some file) only_these rose h ends =
-        let here : IsHere origin (held_after g (begun start) h.lines).session (transcript g (begun start) h.lines ++ prompt g.prompts) after = h.goes origin (opening start) [] (is_here file) in
-        let spot = spot_at (held_after g (begun start) h.lines).session (transcript g (begun start) h.lines ++ prompt g.prompts) in
+        let here : IsHere origin (held_after g (begun start breaks) h.lines).session (transcript g (begun start breaks) h.lines ++ prompt g.prompts) after = h.goes origin (opening start) [] (is_here file) in
+        let spot = spot_at (held_after g (begun start breaks) h.lines).session (transcript g (begun start breaks) h.lines ++ prompt g.prompts) in
         record {
           meant = LineFault;
           grown = wrote_at end.LineFault spot;
@@ -246,13 +250,13 @@ module _ (outside : Outside) (lines : Change (List Text)) (g : Terms) (m n : Eng
         }
 
     -- the limit of turns was reached
-    pub timed_out : (told : Option BlockFile) → OnlyReplied outside.sink.before.told mid.told → Holds g no_plan end.Turns (stage_at outside lines m told n mid.told)
-        → EndsFrom mid outside.sink.after Turns (only Report (machine_report n last.Turns [])) result → WentSo told outside lines start g result
+    pub timed_out : (told : Option BlockFile) → OnlyReplied outside.sink.before.told mid.told → Holds g breaks end.Turns (stage_at outside lines m told n mid.told)
+        → EndsFrom mid outside.sink.after Turns (only Report (machine_report n last.Turns [])) result → WentSo told outside lines start g breaks result
     timed_out None only_these h ends = untold end.Turns Turns last.Turns refl h tt only_these ends
     timed_out (Some file) only_these h ends =
-        let c : IsCutShort failure.Turns g (begun start) h.lines origin [] after = h.goes origin (opening start) [] (is_here file) in
+        let c : IsCutShort failure.Turns g (begun start breaks) h.lines origin [] after = h.goes origin (opening start) [] (is_here file) in
         let w = c.acts.1 in
-        let replies = transcript g (begun start) c.front ++ prompt g.prompts in
+        let replies = transcript g (begun start breaks) c.front ++ prompt g.prompts in
         let spot : Spot = record { place = w.place; steps = n.steps; replies = replies } in
         record {
           meant = Turns;
@@ -274,13 +278,13 @@ module _ (outside : Outside) (lines : Change (List Text)) (g : Terms) (m n : Eng
         }
 
     -- a call of the page file failed
-    module _ (file : BlockFile) (rose : HasFailed outside.pages) (h : Holds g no_plan end.PageFault (stage_at outside lines m (Some file) n mid.told)) (front : List Exchange) (line : Exchange) (splits : h.lines ≡ front ++ line ∷ []) (ends : EndsFrom mid outside.sink.after PageFault (only Report (machine_report n last.PageFault [])) result) where
+    module _ (file : BlockFile) (rose : HasFailed outside.pages) (h : Holds g breaks end.PageFault (stage_at outside lines m (Some file) n mid.told)) (front : List Exchange) (line : Exchange) (splits : h.lines ≡ front ++ line ∷ []) (ends : EndsFrom mid outside.sink.after PageFault (only Report (machine_report n last.PageFault [])) result) where
       abbrev front_replies : List ℕ
-      front_replies = transcript g (begun start) front ++ prompt g.prompts
+      front_replies = transcript g (begun start breaks) front ++ prompt g.prompts
 
-      cut_in : IsWithin start (held_after g (begun start) front).session (act_of g (held_after g (begun start) front) line).most front_replies n outside.pages.after.told outside.sink.before.told mid.told
-          ⊎ IsToldInPart origin (after_line g (held_after g (begun start) front) line).session front_replies (replied g (held_after g (begun start) front) line) after
-          → WentSo (Some file) outside lines start g result
+      cut_in : IsWithin start (held_after g (begun start breaks) front).session (act_of g (held_after g (begun start breaks) front) line).most front_replies n outside.pages.after.told outside.sink.before.told mid.told
+          ⊎ IsToldInPart origin (after_line g (held_after g (begun start breaks) front) line).session front_replies (replied g (held_after g (begun start breaks) front) line) after
+          → WentSo (Some file) outside lines start g breaks result
       cut_in (inl w) =
           let spot : Spot = record { place = w.place; steps = n.steps; replies = front_replies } in
           record {
@@ -290,7 +294,7 @@ module _ (outside : Outside) (lines : Change (List Text)) (g : Terms) (m n : Eng
             ends = told_behind w.place n.steps front_replies last.PageFault PageFault w.sent refl w.means w.output w.wrote ends;
           }
       cut_in (inr p) =
-          let s = (after_line g (held_after g (begun start) front) line).session in
+          let s = (after_line g (held_after g (begun start breaks) front) line).session in
           let spot = spot_at s (front_replies ++ p.told) in
           record {
             meant = PageFault;
@@ -299,25 +303,25 @@ module _ (outside : Outside) (lines : Change (List Text)) (g : Terms) (m n : Eng
             ends = told_behind (At s.machine) s.steps (front_replies ++ p.told) last.PageFault PageFault p.at.sent p.at.steps p.at.means p.at.output p.at.wrote ends;
           }
 
-    pub cut_off : (told : Option BlockFile) → OnlyReplied outside.sink.before.told mid.told → HasFailed outside.pages → Holds g no_plan end.PageFault (stage_at outside lines m told n mid.told)
-        → EndsFrom mid outside.sink.after PageFault (only Report (machine_report n last.PageFault [])) result → WentSo told outside lines start g result
+    pub cut_off : (told : Option BlockFile) → OnlyReplied outside.sink.before.told mid.told → HasFailed outside.pages → Holds g breaks end.PageFault (stage_at outside lines m told n mid.told)
+        → EndsFrom mid outside.sink.after PageFault (only Report (machine_report n last.PageFault [])) result → WentSo told outside lines start g breaks result
     cut_off None only_these rose h ends = untold end.PageFault PageFault last.PageFault refl h rose only_these ends
     cut_off (Some file) only_these rose h ends =
-        let c : IsCutShort failure.PageFault g (begun start) h.lines origin [] after = h.goes origin (opening start) [] (is_here file) in
+        let c : IsCutShort failure.PageFault g (begun start breaks) h.lines origin [] after = h.goes origin (opening start) [] (is_here file) in
         cut_in file rose h c.front c.last c.splits ends c.acts
 
   -- a write failed
-  module _ (file : BlockFile) (rose : HasFailed outside.sink) (h : Holds g no_plan end.WriteFault (stage_at outside lines m (Some file) n outside.sink.after.told)) where
+  module _ (file : BlockFile) (rose : HasFailed outside.sink) (h : Holds g breaks end.WriteFault (stage_at outside lines m (Some file) n outside.sink.after.told)) where
     abbrev lost_scene : Scene
     lost_scene = scene n outside.pages.after.told outside.sink.after.told
 
     -- of what the steps of the last line write
     lost_in : (front : List Exchange) (line : Exchange) → h.lines ≡ front ++ line ∷ []
-        → IsLost (act_of g (held_after g (begun start) front) line).most origin (held_after g (begun start) front).session (transcript g (begun start) front ++ prompt g.prompts) lost_scene
-        → WentSo (Some file) outside lines start g WriteFault
+        → IsLost (act_of g (held_after g (begun start breaks) front) line).most origin (held_after g (begun start breaks) front).session (transcript g (begun start breaks) front ++ prompt g.prompts) lost_scene
+        → WentSo (Some file) outside lines start g breaks WriteFault
     lost_in front line splits l =
-        let s = advanced l.made (held_after g (begun start) front).session in
-        let replies = transcript g (begun start) front ++ prompt g.prompts in
+        let s = advanced l.made (held_after g (begun start breaks) front).session in
+        let replies = transcript g (begun start breaks) front ++ prompt g.prompts in
         let spot = spot_at s replies in
         let prefix = subst (λ (out : List ℕ). GrewByPrefix outside.sink.before.told outside.sink.after.told (writes out replies)) (sent_all start.output s.machine.output l.part.sent f.silent l.part.output) l.part.wrote in
         record {
@@ -347,11 +351,11 @@ module _ (outside : Outside) (lines : Change (List Text)) (g : Terms) (m n : Eng
 
     -- a part of the last line's reply
     lost_reply : (front : List Exchange) (line : Exchange) → h.lines ≡ front ++ line ∷ []
-        → IsToldInPart origin (after_line g (held_after g (begun start) front) line).session (transcript g (begun start) front ++ prompt g.prompts) (replied g (held_after g (begun start) front) line) lost_scene
-        → WentSo (Some file) outside lines start g WriteFault
+        → IsToldInPart origin (after_line g (held_after g (begun start breaks) front) line).session (transcript g (begun start breaks) front ++ prompt g.prompts) (replied g (held_after g (begun start breaks) front) line) lost_scene
+        → WentSo (Some file) outside lines start g breaks WriteFault
     lost_reply front line splits p =
-        let s = (after_line g (held_after g (begun start) front) line).session in
-        let spot = spot_at s ((transcript g (begun start) front ++ prompt g.prompts) ++ p.told) in
+        let s = (after_line g (held_after g (begun start breaks) front) line).session in
+        let spot = spot_at s ((transcript g (begun start breaks) front ++ prompt g.prompts) ++ p.told) in
         record {
           meant = Done;
           grown = wrote_at end.WriteFault spot;
@@ -372,10 +376,10 @@ module _ (outside : Outside) (lines : Change (List Text)) (g : Terms) (m n : Eng
         }
 
     -- a part of a prompt
-    lost_prompt : IsToldInPart origin (held_after g (begun start) h.lines).session (transcript g (begun start) h.lines) (prompt g.prompts) lost_scene → WentSo (Some file) outside lines start g WriteFault
+    lost_prompt : IsToldInPart origin (held_after g (begun start breaks) h.lines).session (transcript g (begun start breaks) h.lines) (prompt g.prompts) lost_scene → WentSo (Some file) outside lines start g breaks WriteFault
     lost_prompt p =
-        let s = (held_after g (begun start) h.lines).session in
-        let spot = spot_at s (transcript g (begun start) h.lines ++ p.told) in
+        let s = (held_after g (begun start breaks) h.lines).session in
+        let spot = spot_at s (transcript g (begun start breaks) h.lines ++ p.told) in
         record {
           meant = Done;
           grown = wrote_at end.WriteFault spot;
@@ -396,19 +400,19 @@ module _ (outside : Outside) (lines : Change (List Text)) (g : Terms) (m n : Eng
         }
 
     lost_line : (front : List Exchange) (line : Exchange) → h.lines ≡ front ++ line ∷ []
-        → IsLost (act_of g (held_after g (begun start) front) line).most origin (held_after g (begun start) front).session (transcript g (begun start) front ++ prompt g.prompts) lost_scene
-        ⊎ IsToldInPart origin (after_line g (held_after g (begun start) front) line).session (transcript g (begun start) front ++ prompt g.prompts) (replied g (held_after g (begun start) front) line) lost_scene
-        → WentSo (Some file) outside lines start g WriteFault
+        → IsLost (act_of g (held_after g (begun start breaks) front) line).most origin (held_after g (begun start breaks) front).session (transcript g (begun start breaks) front ++ prompt g.prompts) lost_scene
+        ⊎ IsToldInPart origin (after_line g (held_after g (begun start breaks) front) line).session (transcript g (begun start breaks) front ++ prompt g.prompts) (replied g (held_after g (begun start breaks) front) line) lost_scene
+        → WentSo (Some file) outside lines start g breaks WriteFault
     lost_line front line splits (inl l) = lost_in front line splits l
     lost_line front line splits (inr p) = lost_reply front line splits p
 
-    lost_by : IsCutShort failure.WriteFault g (begun start) h.lines origin [] lost_scene
-        ⊎ IsToldInPart origin (held_after g (begun start) h.lines).session (transcript g (begun start) h.lines) (prompt g.prompts) lost_scene → WentSo (Some file) outside lines start g WriteFault
+    lost_by : IsCutShort failure.WriteFault g (begun start breaks) h.lines origin [] lost_scene
+        ⊎ IsToldInPart origin (held_after g (begun start breaks) h.lines).session (transcript g (begun start breaks) h.lines) (prompt g.prompts) lost_scene → WentSo (Some file) outside lines start g breaks WriteFault
     lost_by (inl c) = lost_line c.front c.last c.splits c.acts
     lost_by (inr p) = lost_prompt p
 
-  pub lost : (told : Option BlockFile) → OnlyReplied outside.sink.before.told outside.sink.after.told → HasFailed outside.sink → Holds g no_plan end.WriteFault (stage_at outside lines m told n outside.sink.after.told)
-      → WentSo told outside lines start g WriteFault
+  pub lost : (told : Option BlockFile) → OnlyReplied outside.sink.before.told outside.sink.after.told → HasFailed outside.sink → Holds g breaks end.WriteFault (stage_at outside lines m told n outside.sink.after.told)
+      → WentSo told outside lines start g breaks WriteFault
   lost None only_these rose h =
       let wrote = writes only_these.sent only_these.replies in
       record {

@@ -1,1 +1,3 @@
 pub mod DebugLaws
+pub mod RestartLaws
+pub mod CauseLaws

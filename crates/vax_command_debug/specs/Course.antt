@@ -1,5 +1,5 @@
 -- How a session with a debugger goes, and what it writes.
-use Rattle.std.specs.Prelude.{ℕ, ◌≡◌, ◌⊎◌, List, [], ◌∷◌, ◌++◌, Option, None, Some}
+use Rattle.std.specs.Prelude.{ℕ, ◌≡◌, ◌-◌, ◌^◌, ◌⊎◌, List, [], ◌∷◌, ◌++◌, codes, length, Option, None, Some}
 use Rattle.vax_outside.specs.Blocks.{BlockFile}
 use Rattle.vax_outside.specs.Channels.{Channels, append, nothing, only}
 use Rattle.vax_outside.specs.declared.traits.Chan.TheVariants.{Report}
@@ -9,12 +9,14 @@ use Rattle.vax_flat.specs.declared.Ending.{Ending}
 use Rattle.vax_report.specs.Report.{report}
 use Rattle.vax_report.specs.declared.Last.{Last}
 use Rattle.vax_report.specs.declared.Last.TheVariants as last
+use Rattle.vax_input.specs.Lines.{Takes}
 use Rattle.vax_machine.specs.Machine.{Means}
 use Rattle.vax_machine.specs.declared.engine.Engine.{Engine}
 use Rattle.vax_console.specs.Ends.{IsOnTheWay, IsOutOfTurns, writes}
 use Rattle.vax_console.specs.Transcript.{Session, last_of}
 use Rattle.vax_debug_session.specs.Exchanges.{Exchange, lines_of}
-use Rattle.vax_debug_session.specs.Holding.{Asked, Terms, Took, act_of, after_line, held_after, prompt, replied, transcript}
+use Rattle.vax_debug_session.specs.Holding.{Asked, IsAskedAtLast, Terms, Took, act_of, after_line, held_after, prompt, replied, transcript}
+use Rattle.vax_debug_session.specs.Plan.{Plan}
 use Rattle.vax_debug_session.specs.Plans.{no_plan}
 use Rattle.vax_debug_session.specs.Requests.{Held, held}
 use Rattle.vax_debug_session.specs.declared.SessionEnd.{SessionEnd}
@@ -25,7 +27,7 @@ use Rattle.vax_command.specs.Fresh.{machine_report}
 use Rattle.vax_command.specs.Saving.{AnswersSave, state_at}
 use Rattle.vax_command.specs.SessionWent.{broken_off, opening}
 use Rattle.vax_command.specs.declared.status.Status.{Status}
-use Rattle.vax_command.specs.declared.status.Status.TheVariants.{Done, LineFault, PageFault, Turns}
+use Rattle.vax_command.specs.declared.status.Status.TheVariants.{Done, LineFault, PageFault, Turns, Unfinished}
 
 -- where a session stops: a place of the flat machine, the steps that lead there, and what was replied before
 pub record Spot : Type 0 where
@@ -37,9 +39,9 @@ pub record Spot : Type 0 where
 abbrev pub spot_at : Session → List ℕ → Spot
 spot_at s replies = record { place = At s.machine; steps = s.steps; replies = replies }
 
--- before the first line, where steps stop at no address and nothing is watched
-abbrev pub begun : Flat → Held
-begun start = held (opening start) no_plan
+-- before the first line of a run, where steps stop so
+abbrev pub begun : Flat → Plan → Held
+begun start breaks = held (opening start) breaks
 
 -- the lines in front of the last were carried out, and the machine is on the way through the steps of the last one
 pub record IsStepping (g : Terms) (h : Held) (lines : List Exchange) (spot : Spot) : Type 0 where
@@ -81,6 +83,7 @@ IsBehind g h lines more spot = spot ≡ spot_at (held_after g h lines).session (
 abbrev pub StopsAt : SessionEnd → Outside → Terms → Held → List Exchange → Spot → Type 0
 StopsAt end.Quit outside g h lines spot = IsBehind g h lines [] spot
 StopsAt end.Save outside g h lines spot = ⊥
+StopsAt end.Restart outside g h lines spot = IsBehind g h lines [] spot
 StopsAt end.Read outside g h lines spot = IsBehind g h lines (prompt g.prompts) spot
 StopsAt end.Lines outside g h lines spot = IsBehind g h lines [] spot
 StopsAt end.Turns outside g h lines spot = IsOutOf outside g h lines spot
@@ -92,6 +95,7 @@ StopsAt end.LineFault outside g h lines spot = IsBehind g h lines (prompt g.prom
 abbrev pub Causes : SessionEnd → Outside → Change (List Text) → Type 0
 Causes end.Quit outside lines = Unit {0}
 Causes end.Save outside lines = ⊥
+Causes end.Restart outside lines = Unit {0}
 Causes end.Read outside lines = Unit {0}
 Causes end.Lines outside lines = Unit {0}
 Causes end.Turns outside lines = Unit {0}
@@ -105,25 +109,27 @@ why_at end.Turns place = last.Turns
 why_at end.PageFault place = last.PageFault
 why_at _ place = last_of (machine_at place).ending
 
--- the answer; a write that failed is told by how the channels grew
+-- The answer; a write that failed is told by how the channels grew. Where a restart ends the session, memory was refused for it.
 abbrev pub answer_of : SessionEnd → Status
+answer_of end.Restart = Unfinished
 answer_of end.Turns = Turns
 answer_of end.PageFault = PageFault
 answer_of end.LineFault = LineFault
 answer_of _ = Done
 
--- what was written: the guest's output and the replies, and behind them the report, but where a write failed before
+-- what was written: the guest's output and the replies, and behind them the report, but where a write failed before, or memory was refused
 abbrev pub wrote_at : SessionEnd → Spot → Channels
+wrote_at end.Restart spot = writes (machine_at spot.place).output spot.replies
 wrote_at end.WriteFault spot = writes (machine_at spot.place).output spot.replies
 wrote_at e spot = broken_off spot.replies spot.place spot.steps (why_at e spot.place)
 
 -- Lines were taken, each with pages, and the session ended so behind them, or within the last one.
-pub record Ended (e : SessionEnd) (outside : Outside) (lines : Change (List Text)) (start : Flat) (g : Terms) (status : Status) (grown : Channels) : Type 0 where
+pub record Ended (e : SessionEnd) (outside : Outside) (lines : Change (List Text)) (start : Flat) (g : Terms) (breaks : Plan) (status : Status) (grown : Channels) : Type 0 where
   pub given : List Exchange
   pub took : Took e lines.before.told lines.after.told (lines_of given)
   pub asked : Asked e given
   pub spot : Spot
-  pub stops : StopsAt e outside g (begun start) given spot
+  pub stops : StopsAt e outside g (begun start breaks) given spot
   pub cause : Causes e outside lines
   pub answer : status ≡ answer_of e
   pub wrote : grown ≡ wrote_at e spot
@@ -162,11 +168,11 @@ SavesHere outside s replies status grown =
     ⊎ (HasFailed outside.pages × (status ≡ PageFault) × ((part : Channels) × (rest : Channels) × (append part rest ≡ state_unless s.machine.ending (At s.machine) s.steps) × (grown ≡ saving_output s replies part last.PageFault)))
 
 -- Lines were taken, each with pages, and the last of them asks for the state to be saved: it is, as it stands behind all of them.
-pub record Saved (outside : Outside) (lines : Change (List Text)) (start : Flat) (g : Terms) (status : Status) (grown : Channels) : Type 0 where
+pub record Saved (outside : Outside) (lines : Change (List Text)) (start : Flat) (g : Terms) (breaks : Plan) (status : Status) (grown : Channels) : Type 0 where
   pub given : List Exchange
   pub took : Took end.Save lines.before.told lines.after.told (lines_of given)
   pub asked : Asked end.Save given
-  pub saves : SavesHere outside (held_after g (begun start) given).session (transcript g (begun start) given) status grown
+  pub saves : SavesHere outside (held_after g (begun start breaks) given).session (transcript g (begun start breaks) given) status grown
 
 -- So it does; of what it wrote nothing is said.
 pub record SavedUntold (outside : Outside) (lines : Change (List Text)) (status : Status) (grown : Channels) : Type 0 where
@@ -175,12 +181,76 @@ pub record SavedUntold (outside : Outside) (lines : Change (List Text)) (status 
   pub asked : Asked end.Save given
   pub answer : AnswersSave outside.pages Done status grown
 
--- It went so; where the page file doesn't tell its contents, the flat machine isn't spoken of.
+-- So did a run, from this plan on; where the page file doesn't tell its contents, the flat machine isn't spoken of.
+abbrev pub RunFrom : Option BlockFile → Outside → Change (List Text) → Flat → Terms → Plan → Status → Channels → Type 0
+RunFrom None outside lines start g breaks status grown =
+    ((e : SessionEnd) × EndedUntold e outside lines status grown) ⊎ SavedUntold outside lines status grown
+RunFrom (Some file) outside lines start g breaks status grown =
+    ((e : SessionEnd) × Ended e outside lines start g breaks status grown) ⊎ Saved outside lines start g breaks status grown
+
+-- runs behind each of which the program begins anew
+
+-- the reply where it does
+abbrev pub anew_line : List ℕ
+anew_line = codes "OK" ++ 10 ∷ []
+
+-- what a run writes whose last line asks for that
+abbrev pub run_output : Terms → Held → List Exchange → Channels
+run_output g h run = append (writes (held_after g h run).session.machine.output (transcript g h run)) (only Report anew_line)
+
+-- and runs, one behind the other: the machine is that of the start each time, and steps stop where they did at the end of the run before
+unfoldable pub runs_output : Terms → Flat → Plan → List (List Exchange) → Channels
+runs_output g start breaks [] = nothing
+runs_output g start breaks (run ∷ runs) =
+    append (run_output g (begun start breaks) run) (runs_output g start (held_after g (begun start breaks) run).breaks runs)
+
+-- where steps stop behind them
+unfoldable pub breaks_left : Terms → Flat → Plan → List (List Exchange) → Plan
+breaks_left g start breaks [] = breaks
+breaks_left g start breaks (run ∷ runs) = breaks_left g start (held_after g (begun start breaks) run).breaks runs
+
+-- all of their lines
+unfoldable pub joined : List (List Exchange) → List Exchange
+joined [] = []
+joined (run ∷ runs) = run ++ joined runs
+
+-- the last line of each asks for the program's start, and it alone
+unfoldable pub AreRestarts : List (List Exchange) → Type 0
+AreRestarts [] = Unit {0}
+AreRestarts (run ∷ runs) = IsAskedAtLast end.Restart run × AreRestarts runs
+
+-- their lines were taken
+pub record Fronts (before now : Option (List Text)) : Type 0 where
+  pub runs : List (List Exchange)
+  pub asked : AreRestarts runs
+  pub took : Takes before now (lines_of (joined runs))
+
+-- lines of which these are still to come
+abbrev pub from : Option (List Text) → Change (List Text) → Change (List Text)
+from told lines = record { before = record { faults = lines.before.faults; told = told }; after = lines.after; same = lines.same }
+
+-- the program began anew as often as 64 bits count, and the session ended before another line was taken
+pub record IsWornOut (runs : List (List Exchange)) (now after : Option (List Text)) (start : Flat) (status : Status) (grown : Channels) : Type 0 where
+  pub many : length runs ≡ 2 ^ 64 - 1
+  pub same : after ≡ now
+  pub answer : status ≡ Done
+  pub wrote : grown ≡ broken_off [] (At start) 0 (last_of start.ending)
+
+pub record IsWornOutUntold (runs : List (List Exchange)) (now after : Option (List Text)) (status : Status) (grown : Channels) : Type 0 where
+  pub many : length runs ≡ 2 ^ 64 - 1
+  pub same : after ≡ now
+  pub answer : status ≡ Done
+  pub unrecorded : grown.recorded ≡ []
+
+-- It went so: a last run ended the session, and behind each before it the program began anew. The output of all is written, one behind the other.
 abbrev pub WentFrom : Option BlockFile → Outside → Change (List Text) → Flat → Terms → Status → Channels → Type 0
 WentFrom None outside lines start g status grown =
-    ((e : SessionEnd) × EndedUntold e outside lines status grown) ⊎ SavedUntold outside lines status grown
+    (now : Option (List Text)) × (f : Fronts lines.before.told now)
+    × (RunFrom None outside (from now lines) start g no_plan status grown ⊎ IsWornOutUntold f.runs now lines.after.told status grown)
 WentFrom (Some file) outside lines start g status grown =
-    ((e : SessionEnd) × Ended e outside lines start g status grown) ⊎ Saved outside lines start g status grown
+    (now : Option (List Text)) × (f : Fronts lines.before.told now) × (last : Channels)
+    × (RunFrom (Some file) outside (from now lines) start g (breaks_left g start no_plan f.runs) status last ⊎ IsWornOut f.runs now lines.after.told start status last)
+    × (grown ≡ append (runs_output g start no_plan f.runs) last)
 
 abbrev pub Went : Outside → Change (List Text) → Flat → Terms → Status → Channels → Type 0
 Went outside lines start g status grown = WentFrom outside.pages.before.told outside lines start g status grown

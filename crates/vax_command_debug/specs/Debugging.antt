@@ -4,7 +4,7 @@ use Rattle.vax_outside.specs.Channels.{Channels}
 use Rattle.vax_image.specs.Start.{Start, start_areas}
 use Rattle.vax_sched.specs.Faults.{Denotes}
 use Rattle.vax_sched.specs.declared.rule.Rule.{Rule}
-use Rattle.vax_debug_names.specs.declared.Symbol.{Symbol}
+use Rattle.vax_debug_names.specs.declared.Legend.{Legend}
 use Rattle.vax_debug_session.specs.Holding.{Terms}
 use Rattle.vax_cli.specs.Words.{Options, Text}
 use Rattle.vax_command.specs.Around.{Change, Outside}
@@ -14,21 +14,21 @@ use Rattle.vax_command.specs.Running.{IsMisplanned, LacksMemory}
 use Rattle.vax_command.specs.declared.status.Status.{Status}
 use Rattle.vax_command_debug.specs.Course.{Went}
 
--- what a session is given beside its program: the console's input, the schedule, the symbols, and whether prompts are written
+-- what a session is given beside its program: the console's input, the schedule, what it is told by, and whether prompts are written
 pub record Given : Type 0 where
   pub input : Text
   pub schedule : Text
-  pub symbols : List Symbol
+  pub legend : Legend
   pub prompts : Bool
 
-abbrev pub given : (input schedule : Text) → List Symbol → Bool → Given
-given input schedule symbols prompts = record { input = input; schedule = schedule; symbols = symbols; prompts = prompts }
+abbrev pub given : (input schedule : Text) → Legend → Bool → Given
+given input schedule legend prompts = record { input = input; schedule = schedule; legend = legend; prompts = prompts }
 
 -- what it is held under
 abbrev pub terms_of : Given → Options → Terms
 terms_of given options = record {
   limits = record { steps = options.steps; turns = options.turns; listed = false };
-  symbols = given.symbols;
+  legend = given.legend;
   prompts = given.prompts;
 }
 

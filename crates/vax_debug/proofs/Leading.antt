@@ -9,7 +9,7 @@ use Rattle.vax_debug.specs.Calls.{TellsFrom, longword_at}
 use Rattle.vax_debug_words.specs.declared.request.Base.{Base}
 use Rattle.vax_debug_words.specs.declared.request.Expression.{Expression}
 use Rattle.vax_debug_names.specs.Names.{number_of}
-use Rattle.vax_debug_names.specs.declared.Symbol.{Symbol}
+use Rattle.vax_debug_names.specs.declared.Legend.{Legend}
 use Rattle.vax_debug.specs.Values.{based, evaluated, next_of, plus, through}
 
 pub leads_first : (count : ℕ) (m : Flat) (address : ℕ) → through count m (Some address) ≡ through (count - 0) m (Some address)
@@ -38,9 +38,9 @@ pub leads_there : (count i : ℕ) (m : Flat) (address here : ℕ) → count ≤ 
 unfolding through
 leads_there count i m address here all so = let none : count - i ≡ zero = omega (arith, all) in sym (so ∙ ap (λ (n : ℕ). through n m (Some here)) none)
 
-pub is_evaluated : (symbols : List Symbol) (e : Expression) (m : Flat) (found value : Option ℕ) → found ≡ based symbols m e.through e.base → value ≡ option_map (plus e.offset) found → value ≡ evaluated symbols e m
+pub is_evaluated : (legend : Legend) (e : Expression) (m : Flat) (found value : Option ℕ) → found ≡ based legend m e.through e.base → value ≡ option_map (plus e.offset) found → value ≡ evaluated legend e m
 unfolding evaluated
-is_evaluated symbols e m found value is told = told ∙ ap (option_map (plus e.offset)) is
+is_evaluated legend e m found value is told = told ∙ ap (option_map (plus e.offset)) is
 
 -- what is told of a register by what it holds
 pub from_held : (r : Result (Option ℕ) PageFault) (v : Scene) (count register value : ℕ) → value ≡ slice_index v.machine.cpu.core.regs register → IfOk r (TellsFrom v (λ (m : Flat). through count m (Some value))) → IfOk r (TellsFrom v (λ (m : Flat). through count m (Some (slice_index m.core.regs register))))
@@ -56,8 +56,8 @@ pub from_no_name : (count : ℕ) (m : Flat) (found : Option ℕ) → None ≡ fo
 from_no_name count m found e = sym (from_none count m) ∙ ap (through count m) e
 
 -- what is told of a base, by what it is
-pub base_tells : (r : Result (Option ℕ) PageFault) (v : Scene) (symbols : List Symbol) (count : ℕ) (base other : Base) → base ≡ other → IfOk r (TellsFrom v (λ (m : Flat). based symbols m count other)) → IfOk r (TellsFrom v (λ (m : Flat). based symbols m count base))
-base_tells r v symbols count base other e p = subst (λ (z : Base). IfOk r (TellsFrom v (λ (m : Flat). based symbols m count z))) (sym e) p
+pub base_tells : (r : Result (Option ℕ) PageFault) (v : Scene) (legend : Legend) (count : ℕ) (base other : Base) → base ≡ other → IfOk r (TellsFrom v (λ (m : Flat). based legend m count other)) → IfOk r (TellsFrom v (λ (m : Flat). based legend m count base))
+base_tells r v legend count base other e p = subst (λ (z : Base). IfOk r (TellsFrom v (λ (m : Flat). based legend m count z))) (sym e) p
 
-pub name_tells : (r : Result (Option ℕ) PageFault) (v : Scene) (symbols : List Symbol) (count : ℕ) (word name : List ℕ) → word ≡ name → IfOk r (TellsFrom v (λ (m : Flat). through count m (number_of symbols word))) → IfOk r (TellsFrom v (λ (m : Flat). through count m (number_of symbols name)))
-name_tells r v symbols count word name e p = subst (λ (z : List ℕ). IfOk r (TellsFrom v (λ (m : Flat). through count m (number_of symbols z)))) e p
+pub name_tells : (r : Result (Option ℕ) PageFault) (v : Scene) (legend : Legend) (count : ℕ) (word name : List ℕ) → word ≡ name → IfOk r (TellsFrom v (λ (m : Flat). through count m (number_of legend.symbols.now word))) → IfOk r (TellsFrom v (λ (m : Flat). through count m (number_of legend.symbols.now name)))
+name_tells r v legend count word name e p = subst (λ (z : List ℕ). IfOk r (TellsFrom v (λ (m : Flat). through count m (number_of legend.symbols.now z)))) e p

@@ -61,7 +61,8 @@ pub fn go<F: PageFile, K: Sink>(
     ensures goes { LeadsFrom
         (scene (engine machine.old) (F.contents file.old) (K.contents sink.old))
         (scene (engine machine.new) (F.contents file.new) (K.contents sink.new))
-        result limits.now.turns (left limits.now.steps) (gone_on limits.now.steps marks.now.breaks.now marks.now.seen.now) }
+        result limits.now.turns (left limits.now.steps)
+        (gone_on limits.now.steps marks.now.breaks.now marks.now.seen.now) }
     ensures counts { Counts result (F.faults file.old) (F.faults file.new) (K.faults sink.old)
         (K.faults sink.new) }
     ensures only { OnlyReplied (K.contents sink.old) (K.contents sink.new) }
@@ -85,7 +86,8 @@ pub fn go_to<F: PageFile, K: Sink>(
     ensures goes { LeadsFrom
         (scene (engine machine.old) (F.contents file.old) (K.contents sink.old))
         (scene (engine machine.new) (F.contents file.new) (K.contents sink.new))
-        result limits.now.turns (left limits.now.steps) (gone_to limits.now.steps goal marks.now.breaks.now marks.now.seen.now) }
+        result limits.now.turns (left limits.now.steps)
+        (gone_to limits.now.steps goal marks.now.breaks.now marks.now.seen.now) }
     ensures counts { Counts result (F.faults file.old) (F.faults file.new) (K.faults sink.old)
         (K.faults sink.new) }
     ensures only { OnlyReplied (K.contents sink.old) (K.contents sink.new) }

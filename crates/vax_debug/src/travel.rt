@@ -144,7 +144,8 @@ pub(crate) fn travel<F: PageFile, K: Sink>(
         (scene (engine machine.old) (F.contents file.old) (K.contents sink.old))
         (scene (engine machine.new) (F.contents file.new) (K.contents sink.new))
         result limits.now.turns (λ (s : Session). course.count)
-        (λ (s : Session). travelled course.count (stops_at marks.now.breaks.now marks.now.seen.now course.goal) s) }
+        (λ (s : Session). travelled course.count
+        (stops_at marks.now.breaks.now marks.now.seen.now course.goal) s) }
     ensures counts { Counts result (F.faults file.old) (F.faults file.new) (K.faults sink.old)
         (K.faults sink.new) }
     ensures only { OnlyReplied (K.contents sink.old) (K.contents sink.new) }

@@ -12,7 +12,7 @@ ghost use Rattle.vax_debug_names.specs.Names.{number_of};
 ghost use Rattle.vax_debug.specs.Values.{based, evaluated, plus, through};
 
 use crate::frames::longword;
-use vax_debug_names::{Symbol, number_of};
+use vax_debug_names::{Legend, number_of};
 use vax_debug_words::{Base, Expression};
 use vax_machine::Machine;
 use vax_outside::PageFile;
@@ -74,7 +74,7 @@ fn from_register<F: PageFile>(
 
 /// Where a name leads.
 fn from_name<F: PageFile>(
-    symbols: &[Symbol],
+    legend: &Legend,
     name: &[u8],
     count: u8,
     machine: &mut Machine,
@@ -82,13 +82,13 @@ fn from_name<F: PageFile>(
 ) -> Result<Option<u32>, PageFault>
     ensures tells { (sink : Option Channels) → IfOk result
         (TellsFrom (scene (engine machine.old) (F.contents file.old) sink)
-        (λ (m : Flat). through count m (number_of symbols.now name.now))) }
+        (λ (m : Flat). through count m (number_of legend.now.symbols.now name.now))) }
     ensures stays { (sink : Option Channels) →
         StaysHere (scene (engine machine.old) (F.contents file.old) sink)
         (scene (engine machine.new) (F.contents file.new) sink) }
     ensures counts { CountsFailure (is_err result) (F.faults file.old) (F.faults file.new) }
 {
-    match number_of(symbols, name) {
+    match number_of(legend.symbols, name) {
         Some(address) => through(count, address, machine, file),
         None => Ok(None),
     }
@@ -96,7 +96,7 @@ fn from_name<F: PageFile>(
 
 /// Where a base leads behind so many `@`s.
 fn based<F: PageFile>(
-    symbols: &[Symbol],
+    legend: &Legend,
     base: &Base,
     count: u8,
     machine: &mut Machine,
@@ -105,7 +105,7 @@ fn based<F: PageFile>(
     requires { IsBase base.now }
     ensures tells { (sink : Option Channels) → IfOk result
         (TellsFrom (scene (engine machine.old) (F.contents file.old) sink)
-        (λ (m : Flat). based symbols.now m count base.now)) }
+        (λ (m : Flat). based legend.now m count base.now)) }
     ensures stays { (sink : Option Channels) →
         StaysHere (scene (engine machine.old) (F.contents file.old) sink)
         (scene (engine machine.new) (F.contents file.new) sink) }
@@ -113,7 +113,7 @@ fn based<F: PageFile>(
 {
     match base {
         Base::Register(register) => from_register(*register, count, machine, file),
-        Base::Named(name) => from_name(symbols, name.as_slice(), count, machine, file),
+        Base::Named(name) => from_name(legend, name.as_slice(), count, machine, file),
     }
 }
 
@@ -129,7 +129,7 @@ fn plus(offset: u32, found: Option<u32>) -> Option<u32>
 
 /// The value of an expression; none where a name is no symbol and no number, and where memory has no whole longword at an `@`.
 pub fn evaluate<F: PageFile>(
-    symbols: &[Symbol],
+    legend: &Legend,
     expression: &Expression,
     machine: &mut Machine,
     file: &mut F,
@@ -137,13 +137,13 @@ pub fn evaluate<F: PageFile>(
     requires { IsExpression expression.now }
     ensures tells { (sink : Option Channels) → IfOk result
         (TellsFrom (scene (engine machine.old) (F.contents file.old) sink)
-        (evaluated symbols.now expression.now)) }
+        (evaluated legend.now expression.now)) }
     ensures stays { (sink : Option Channels) →
         StaysHere (scene (engine machine.old) (F.contents file.old) sink)
         (scene (engine machine.new) (F.contents file.new) sink) }
     ensures counts { CountsFailure (is_err result) (F.faults file.old) (F.faults file.new) }
 {
-    match based(symbols, &expression.base, expression.through, machine, file) {
+    match based(legend, &expression.base, expression.through, machine, file) {
         Ok(found) => Ok(plus(expression.offset, found)),
         Err(_) => Err(PageFault),
     }

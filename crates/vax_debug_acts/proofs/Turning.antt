@@ -6,7 +6,7 @@ use Rattle.vax_debug.specs.Pages.{Pages, attempted, missed_by, start_of_page}
 use Rattle.vax_debug.specs.Sessions.{Arrives, IsHere, Origin}
 use Rattle.vax_debug.specs.declared.breaks.Plan.{Plan}
 use Rattle.vax_debug.specs.declared.failure.Failure.{Failure}
-use Rattle.vax_debug_names.specs.declared.Symbol.{Symbol}
+use Rattle.vax_debug_names.specs.declared.Legend.{Legend}
 use Rattle.vax_debug_replies.specs.Pages.{missed_line}
 use Rattle.vax_debug_acts.specs.Acting.{Act, Acts, Tells}
 use Rattle.vax_debug_acts.specs.Acts.{only_told, stop_reply}
@@ -26,44 +26,44 @@ limit_is : (limit : ℕ) (o : Origin) (s : Session) (replies : List ℕ) (v : Sc
 limit_is limit o s replies v b c h is at = ap (nat_le limit) (sym h.at.steps) ∙ (sym is ∙ at)
 
 -- at the limit no attempt is made
-pub stands : (r : Result (Unit {0}) Failure) (turns limit : ℕ) (symbols : List Symbol) (plan : Plan) (pages : Pages) (o : Origin) (s : Session) (replies : List ℕ) (v w : Scene) (b : Bool) → IsHere o s replies v → b ≡ nat_le limit v.machine.steps → b ≡ true →
-    Tells r o s replies (stop_reply limit symbols plan [] s) w → Acts r turns (turn_act limit symbols plan pages s) o s replies w
-stands r turns limit symbols plan pages o s replies v w b h is at t =
-    act_then (nat_le limit s.steps) (only_told s (stop_reply limit symbols plan [] s)) (attempt_act limit symbols plan (missed_by pages s) s) (λ a. Acts r turns a o s replies w) (limit_is limit o s replies v b true h is at)
-    (done r turns 0 o s s replies (stop_reply limit symbols plan [] s) w t)
+pub stands : (r : Result (Unit {0}) Failure) (turns limit : ℕ) (legend : Legend) (plan : Plan) (pages : Pages) (o : Origin) (s : Session) (replies : List ℕ) (v w : Scene) (b : Bool) → IsHere o s replies v → b ≡ nat_le limit v.machine.steps → b ≡ true →
+    Tells r o s replies (stop_reply limit legend plan [] s) w → Acts r turns (turn_act limit legend plan pages s) o s replies w
+stands r turns limit legend plan pages o s replies v w b h is at t =
+    act_then (nat_le limit s.steps) (only_told s (stop_reply limit legend plan [] s)) (attempt_act limit legend plan (missed_by pages s) s) (λ a. Acts r turns a o s replies w) (limit_is limit o s replies v b true h is at)
+    (done r turns 0 o s s replies (stop_reply limit legend plan [] s) w t)
 
 -- there is a number for the step
 pub room : (o : Origin) (s : Session) (replies : List ℕ) (v : Scene) → IsHere o s replies v → v.machine.steps + 1 < 2 ^ 64 → s.steps + 1 < 2 ^ 64
 room o s replies v h more = let here = h.at.steps in omega (arith, here, more)
 
-goes : (r : Result (Unit {0}) Failure) (turns limit : ℕ) (symbols : List Symbol) (plan : Plan) (pages : Pages) (o : Origin) (s : Session) (replies : List ℕ) (v w : Scene) (b : Bool) → IsHere o s replies v → b ≡ nat_le limit v.machine.steps → b ≡ false →
-    Acts r turns (attempt_act limit symbols plan (missed_by pages s) s) o s replies w → Acts r turns (turn_act limit symbols plan pages s) o s replies w
-goes r turns limit symbols plan pages o s replies v w b h is at a =
-    act_else (nat_le limit s.steps) (only_told s (stop_reply limit symbols plan [] s)) (attempt_act limit symbols plan (missed_by pages s) s) (λ x. Acts r turns x o s replies w) (limit_is limit o s replies v b false h is at) a
+goes : (r : Result (Unit {0}) Failure) (turns limit : ℕ) (legend : Legend) (plan : Plan) (pages : Pages) (o : Origin) (s : Session) (replies : List ℕ) (v w : Scene) (b : Bool) → IsHere o s replies v → b ≡ nat_le limit v.machine.steps → b ≡ false →
+    Acts r turns (attempt_act limit legend plan (missed_by pages s) s) o s replies w → Acts r turns (turn_act limit legend plan pages s) o s replies w
+goes r turns limit legend plan pages o s replies v w b h is at a =
+    act_else (nat_le limit s.steps) (only_told s (stop_reply limit legend plan [] s)) (attempt_act limit legend plan (missed_by pages s) s) (λ x. Acts r turns x o s replies w) (limit_is limit o s replies v b false h is at) a
 
 -- a page was missed
-pub turned_missed : (r : Result (Unit {0}) Failure) (page turns limit : ℕ) (symbols : List Symbol) (plan : Plan) (pages : Pages) (o : Origin) (s : Session) (replies : List ℕ) (v w : Scene) (b : Bool) → IsHere o s replies v → b ≡ nat_le limit v.machine.steps → b ≡ false →
-    Some page ≡ missed_by pages s → Tells r o s replies (missed_line symbols (start_of_page page)) w → Acts r turns (turn_act limit symbols plan pages s) o s replies w
-turned_missed r page turns limit symbols plan pages o s replies v w b h is at missed t =
-    goes r turns limit symbols plan pages o s replies v w b h is at
-    (subst (λ (z : Option ℕ). Acts r turns (attempt_act limit symbols plan z s) o s replies w) missed (done r turns 1 o s s replies (missed_line symbols (start_of_page page)) w t))
+pub turned_missed : (r : Result (Unit {0}) Failure) (page turns limit : ℕ) (legend : Legend) (plan : Plan) (pages : Pages) (o : Origin) (s : Session) (replies : List ℕ) (v w : Scene) (b : Bool) → IsHere o s replies v → b ≡ nat_le limit v.machine.steps → b ≡ false →
+    Some page ≡ missed_by pages s → Tells r o s replies (missed_line legend (start_of_page page)) w → Acts r turns (turn_act limit legend plan pages s) o s replies w
+turned_missed r page turns limit legend plan pages o s replies v w b h is at missed t =
+    goes r turns limit legend plan pages o s replies v w b h is at
+    (subst (λ (z : Option ℕ). Acts r turns (attempt_act limit legend plan z s) o s replies w) missed (done r turns 1 o s s replies (missed_line legend (start_of_page page)) w t))
 
 -- none was
-pub turned_made : (r : Result (Unit {0}) Failure) (turns limit : ℕ) (symbols : List Symbol) (plan : Plan) (pages : Pages) (o : Origin) (s : Session) (replies : List ℕ) (v w : Scene) (b : Bool) → IsHere o s replies v → b ≡ nat_le limit v.machine.steps → b ≡ false →
-    None ≡ missed_by pages s → Tells r o (stepped s) replies (stop_reply limit symbols plan [] (stepped s)) w → Acts r turns (turn_act limit symbols plan pages s) o s replies w
-turned_made r turns limit symbols plan pages o s replies v w b h is at missed t =
-    goes r turns limit symbols plan pages o s replies v w b h is at
-    (subst (λ (z : Option ℕ). Acts r turns (attempt_act limit symbols plan z s) o s replies w) missed (done r turns 1 o s (stepped s) replies (stop_reply limit symbols plan [] (stepped s)) w t))
+pub turned_made : (r : Result (Unit {0}) Failure) (turns limit : ℕ) (legend : Legend) (plan : Plan) (pages : Pages) (o : Origin) (s : Session) (replies : List ℕ) (v w : Scene) (b : Bool) → IsHere o s replies v → b ≡ nat_le limit v.machine.steps → b ≡ false →
+    None ≡ missed_by pages s → Tells r o (stepped s) replies (stop_reply limit legend plan [] (stepped s)) w → Acts r turns (turn_act limit legend plan pages s) o s replies w
+turned_made r turns limit legend plan pages o s replies v w b h is at missed t =
+    goes r turns limit legend plan pages o s replies v w b h is at
+    (subst (λ (z : Option ℕ). Acts r turns (attempt_act limit legend plan z s) o s replies w) missed (done r turns 1 o s (stepped s) replies (stop_reply limit legend plan [] (stepped s)) w t))
 
 -- it failed
-failed : (e : Failure) (missed : Option ℕ) (turns limit : ℕ) (symbols : List Symbol) (plan : Plan) (o : Origin) (s : Session) (replies : List ℕ) (w : Scene) → Arrives (Err e) turns 1 s o s replies w → Acts (Err e) turns (attempt_act limit symbols plan missed s) o s replies w
-failed e None turns limit symbols plan o s replies w a = cut_off e turns (attempt_act limit symbols plan None s) o s s replies w a
-failed e (Some page) turns limit symbols plan o s replies w a = cut_off e turns (attempt_act limit symbols plan (Some page) s) o s s replies w a
+failed : (e : Failure) (missed : Option ℕ) (turns limit : ℕ) (legend : Legend) (plan : Plan) (o : Origin) (s : Session) (replies : List ℕ) (w : Scene) → Arrives (Err e) turns 1 s o s replies w → Acts (Err e) turns (attempt_act limit legend plan missed s) o s replies w
+failed e None turns limit legend plan o s replies w a = cut_off e turns (attempt_act limit legend plan None s) o s s replies w a
+failed e (Some page) turns limit legend plan o s replies w a = cut_off e turns (attempt_act limit legend plan (Some page) s) o s s replies w a
 
-pub turned_failed : (e : Failure) (turns limit : ℕ) (symbols : List Symbol) (plan : Plan) (pages : Pages) (o : Origin) (s : Session) (replies : List ℕ) (v w : Scene) (b : Bool) → IsHere o s replies v → b ≡ nat_le limit v.machine.steps → b ≡ false →
-    Arrives (Err e) turns 1 s o s replies w → Acts (Err e) turns (turn_act limit symbols plan pages s) o s replies w
-turned_failed e turns limit symbols plan pages o s replies v w b h is at a =
-    goes (Err e) turns limit symbols plan pages o s replies v w b h is at (failed e (missed_by pages s) turns limit symbols plan o s replies w a)
+pub turned_failed : (e : Failure) (turns limit : ℕ) (legend : Legend) (plan : Plan) (pages : Pages) (o : Origin) (s : Session) (replies : List ℕ) (v w : Scene) (b : Bool) → IsHere o s replies v → b ≡ nat_le limit v.machine.steps → b ≡ false →
+    Arrives (Err e) turns 1 s o s replies w → Acts (Err e) turns (turn_act limit legend plan pages s) o s replies w
+turned_failed e turns limit legend plan pages o s replies v w b h is at a =
+    goes (Err e) turns limit legend plan pages o s replies v w b h is at (failed e (missed_by pages s) turns limit legend plan o s replies w a)
 
 -- where the session is behind an attempt
 pub missed_here : (page : ℕ) (missed : Option ℕ) (o : Origin) (s : Session) (replies : List ℕ) (w : Scene) → Some page ≡ missed → IsHere o (attempted missed s) replies w → IsHere o s replies w

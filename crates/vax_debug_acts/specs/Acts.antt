@@ -22,7 +22,7 @@ use Rattle.vax_debug_words.specs.declared.request.Span.{Span}
 use Rattle.vax_debug_words.specs.declared.request.Size.TheVariants as size
 use Rattle.vax_debug_words.specs.declared.request.Value.{Value}
 use Rattle.vax_debug_words.specs.declared.request.Value.TheVariants as value
-use Rattle.vax_debug_names.specs.declared.Symbol.{Symbol}
+use Rattle.vax_debug_names.specs.declared.Legend.{Legend}
 use Rattle.vax_debug.specs.Values.{evaluated}
 use Rattle.vax_debug_replies.specs.Stops.{break_line, change_line, here, reason, watch_line}
 use Rattle.vax_debug_acts.specs.Acting.{Act, act}
@@ -73,80 +73,80 @@ abbrev pub why : (limit : ℕ) → List ℕ → Session → Option Last
 why limit breaks s = why_stopped s.machine.ending (list_any (λ a. a == pc_of s.machine.core) breaks) (nat_le limit s.steps)
 
 -- the line of watched bytes, where they are others now
-abbrev pub change_if : List Symbol → (before after : Seen) → List ℕ
-change_if symbols before after =
-    if are_other before.cells after.cells then change_line symbols before.address before.cells after.cells else []
+abbrev pub change_if : Legend → (before after : Seen) → List ℕ
+change_if legend before after =
+    if are_other before.cells after.cells then change_line legend before.address before.cells after.cells else []
 
 -- those of all that is watched, in its order
-unfoldable pub changes : List Symbol → (before after : List Seen) → List ℕ
-changes symbols [] after = []
-changes symbols (b ∷ before) [] = []
-changes symbols (b ∷ before) (a ∷ after) = change_if symbols b a ++ changes symbols before after
+unfoldable pub changes : Legend → (before after : List Seen) → List ℕ
+changes legend [] after = []
+changes legend (b ∷ before) [] = []
+changes legend (b ∷ before) (a ∷ after) = change_if legend b a ++ changes legend before after
 
 -- why it stopped, what was changed, and where it is
-unfoldable pub stop_text : (limit : ℕ) → List Symbol → List ℕ → (changed : List ℕ) → Session → List ℕ
-stop_text limit symbols breaks changed s =
+unfoldable pub stop_text : (limit : ℕ) → Legend → List ℕ → (changed : List ℕ) → Session → List ℕ
+stop_text limit legend breaks changed s =
     reason (why limit breaks s) ++ changed
-    ++ here symbols (pc_of s.machine.core) (memory_from s.machine.memory (pc_of s.machine.core) 64)
+    ++ here legend (pc_of s.machine.core) (memory_from s.machine.memory (pc_of s.machine.core) 64)
 
 -- with the watched bytes that were changed since they were seen
-abbrev pub stop_reply : (limit : ℕ) → List Symbol → Plan → List Seen → Session → List ℕ
-stop_reply limit symbols plan seen s =
-    stop_text limit symbols plan.breaks (changes symbols seen (seen_in plan.watches s.machine)) s
+abbrev pub stop_reply : (limit : ℕ) → Legend → Plan → List Seen → Session → List ℕ
+stop_reply limit legend plan seen s =
+    stop_text limit legend plan.breaks (changes legend seen (seen_in plan.watches s.machine)) s
 
 -- steps that lead there
-abbrev pub stops : (limit : ℕ) → List Symbol → Plan → List Seen → (most : ℕ) → Session → Act
-stops limit symbols plan seen most t = act most t (stop_reply limit symbols plan seen t)
+abbrev pub stops : (limit : ℕ) → Legend → Plan → List Seen → (most : ℕ) → Session → Act
+stops limit legend plan seen most t = act most t (stop_reply limit legend plan seen t)
 
 -- Each of these stops where a watched byte isn't as it was before its first step.
 
-abbrev pub step_seen : (limit : ℕ) → List Symbol → Plan → (count : ℕ) → List Seen → Session → Act
-step_seen limit symbols plan count seen s =
-    stops limit symbols plan seen (min count (left limit s)) (stepped_on limit count plan.breaks seen s)
+abbrev pub step_seen : (limit : ℕ) → Legend → Plan → (count : ℕ) → List Seen → Session → Act
+step_seen limit legend plan count seen s =
+    stops limit legend plan seen (min count (left limit s)) (stepped_on limit count plan.breaks seen s)
 
-abbrev pub step_act : (limit : ℕ) → List Symbol → Plan → (count : ℕ) → Session → Act
-step_act limit symbols plan count s = step_seen limit symbols plan count (seen_in plan.watches s.machine) s
+abbrev pub step_act : (limit : ℕ) → Legend → Plan → (count : ℕ) → Session → Act
+step_act limit legend plan count s = step_seen limit legend plan count (seen_in plan.watches s.machine) s
 
-abbrev pub go_seen : (limit : ℕ) → List Symbol → Plan → List Seen → Session → Act
-go_seen limit symbols plan seen s = stops limit symbols plan seen (left limit s) (gone_on limit plan.breaks seen s)
+abbrev pub go_seen : (limit : ℕ) → Legend → Plan → List Seen → Session → Act
+go_seen limit legend plan seen s = stops limit legend plan seen (left limit s) (gone_on limit plan.breaks seen s)
 
-abbrev pub go_act : (limit : ℕ) → List Symbol → Plan → Session → Act
-go_act limit symbols plan s = go_seen limit symbols plan (seen_in plan.watches s.machine) s
+abbrev pub go_act : (limit : ℕ) → Legend → Plan → Session → Act
+go_act limit legend plan s = go_seen limit legend plan (seen_in plan.watches s.machine) s
 
-abbrev pub over_seen : (limit : ℕ) → List Symbol → Plan → List Seen → Session → Act
-over_seen limit symbols plan seen s =
-    stops limit symbols plan seen (over_count limit s) (stepped_over limit plan.breaks seen s)
+abbrev pub over_seen : (limit : ℕ) → Legend → Plan → List Seen → Session → Act
+over_seen limit legend plan seen s =
+    stops limit legend plan seen (over_count limit s) (stepped_over limit plan.breaks seen s)
 
-abbrev pub over_act : (limit : ℕ) → List Symbol → Plan → Session → Act
-over_act limit symbols plan s = over_seen limit symbols plan (seen_in plan.watches s.machine) s
+abbrev pub over_act : (limit : ℕ) → Legend → Plan → Session → Act
+over_act limit legend plan s = over_seen limit legend plan (seen_in plan.watches s.machine) s
 
-abbrev pub goal_seen : (limit : ℕ) → List Symbol → Plan → Goal → List Seen → Session → Act
-goal_seen limit symbols plan goal seen s =
-    stops limit symbols plan seen (left limit s) (gone_to limit goal plan.breaks seen s)
+abbrev pub goal_seen : (limit : ℕ) → Legend → Plan → Goal → List Seen → Session → Act
+goal_seen limit legend plan goal seen s =
+    stops limit legend plan seen (left limit s) (gone_to limit goal plan.breaks seen s)
 
-abbrev pub to_goal : (limit : ℕ) → List Symbol → Plan → Goal → Session → Act
-to_goal limit symbols plan goal s = goal_seen limit symbols plan goal (seen_in plan.watches s.machine) s
+abbrev pub to_goal : (limit : ℕ) → Legend → Plan → Goal → Session → Act
+to_goal limit legend plan goal s = goal_seen limit legend plan goal (seen_in plan.watches s.machine) s
 
-abbrev pub until_act : (limit : ℕ) → List Symbol → Plan → Expression → Session → Act
-until_act limit symbols plan e s =
-    by_value (evaluated symbols e s.machine) s (λ address. to_goal limit symbols plan (goal_at address 0) s)
+abbrev pub until_act : (limit : ℕ) → Legend → Plan → Expression → Session → Act
+until_act limit legend plan e s =
+    by_value (evaluated legend e s.machine) s (λ address. to_goal limit legend plan (goal_at address 0) s)
 
-abbrev pub out_to : (limit : ℕ) → List Symbol → Plan → Session → Option Goal → Act
-out_to limit symbols plan s None = only_told s no_frame_line
-out_to limit symbols plan s (Some goal) = to_goal limit symbols plan goal s
+abbrev pub out_to : (limit : ℕ) → Legend → Plan → Session → Option Goal → Act
+out_to limit legend plan s None = only_told s no_frame_line
+out_to limit legend plan s (Some goal) = to_goal limit legend plan goal s
 
 -- up to behind the return of the procedure
-abbrev pub out_act : (limit : ℕ) → List Symbol → Plan → Session → Act
-out_act limit symbols plan s = out_to limit symbols plan s (frame_goal s.machine)
+abbrev pub out_act : (limit : ℕ) → Legend → Plan → Session → Act
+out_act limit legend plan s = out_to limit legend plan s (frame_goal s.machine)
 
 -- changes
 
 abbrev pub register_put : (register value : ℕ) → Session → Act
 register_put register value s = act 0 (with_machine (with_register register value s.machine) s) done_line
 
-abbrev pub register_act : List Symbol → (register : ℕ) → Expression → Session → Act
-register_act symbols register e s =
-    by_value (evaluated symbols e s.machine) s (λ value. register_put register value s)
+abbrev pub register_act : Legend → (register : ℕ) → Expression → Session → Act
+register_act legend register e s =
+    by_value (evaluated legend e s.machine) s (λ value. register_put register value s)
 
 -- bytes are put into memory, where they may be
 abbrev pub put_act : (address : ℕ) → List ℕ → Session → Act
@@ -162,20 +162,20 @@ width size.Long = 4
 abbrev pub number_bytes : Size → ℕ → List ℕ
 number_bytes size n = take (width size) (to_le_bytes w32 n)
 
-abbrev pub put_value_act : List Symbol → (address : ℕ) → Value → Session → Act
-put_value_act symbols address (value.Number size e) s =
-    by_value (evaluated symbols e s.machine) s (λ n. put_act address (number_bytes size n) s)
-put_value_act symbols address (value.Quadword n) s = put_act address (to_le_bytes w64 n) s
-put_value_act symbols address (value.Text bytes) s = put_act address bytes s
+abbrev pub put_value_act : Legend → (address : ℕ) → Value → Session → Act
+put_value_act legend address (value.Number size e) s =
+    by_value (evaluated legend e s.machine) s (λ n. put_act address (number_bytes size n) s)
+put_value_act legend address (value.Quadword n) s = put_act address (to_le_bytes w64 n) s
+put_value_act legend address (value.Text bytes) s = put_act address bytes s
 
-abbrev pub memory_act : List Symbol → Expression → Value → Session → Act
-memory_act symbols to given s =
-    by_value (evaluated symbols to s.machine) s (λ address. put_value_act symbols address given s)
+abbrev pub memory_act : Legend → Expression → Value → Session → Act
+memory_act legend to given s =
+    by_value (evaluated legend to s.machine) s (λ address. put_value_act legend address given s)
 
 -- pages: whatever is made absent, the session stays
 
-abbrev pub evict_act : List Symbol → Expression → Session → Act
-evict_act symbols e s = by_value (evaluated symbols e s.machine) s (λ address. only_told s done_line)
+abbrev pub evict_act : Legend → Expression → Session → Act
+evict_act legend e s = by_value (evaluated legend e s.machine) s (λ address. only_told s done_line)
 
 -- addresses at which steps stop, and what is watched
 
@@ -185,14 +185,14 @@ with_break breaks address =
     if list_any (λ a. a == address) breaks then breaks
     else if nat_le 16 (length breaks) then breaks else breaks ++ address ∷ []
 
-abbrev pub added_line : List Symbol → List ℕ → ℕ → List ℕ
-added_line symbols breaks address =
-    if list_any (λ a. a == address) breaks then break_line symbols address
-    else if nat_le 16 (length breaks) then full_line else break_line symbols address
+abbrev pub added_line : Legend → List ℕ → ℕ → List ℕ
+added_line legend breaks address =
+    if list_any (λ a. a == address) breaks then break_line legend address
+    else if nat_le 16 (length breaks) then full_line else break_line legend address
 
-abbrev pub break_act : List Symbol → Plan → Expression → Session → Act
-break_act symbols plan e s =
-    by_value (evaluated symbols e s.machine) s (λ address. only_told s (added_line symbols plan.breaks address))
+abbrev pub break_act : Legend → Plan → Expression → Session → Act
+break_act legend plan e s =
+    by_value (evaluated legend e s.machine) s (λ address. only_told s (added_line legend plan.breaks address))
 
 abbrev pub by_address : Option ℕ → Plan → (ℕ → Plan) → Plan
 by_address None plan change = plan
@@ -201,8 +201,8 @@ by_address (Some address) plan change = change address
 abbrev pub broken_at : Plan → ℕ → Plan
 broken_at plan address = record plan { breaks = with_break plan.breaks address }
 
-abbrev pub breaks_with : List Symbol → Plan → Expression → Session → Plan
-breaks_with symbols plan e s = by_address (evaluated symbols e s.machine) plan (broken_at plan)
+abbrev pub breaks_with : Legend → Plan → Expression → Session → Plan
+breaks_with legend plan e s = by_address (evaluated legend e s.machine) plan (broken_at plan)
 
 -- one more watch, in place of those that begin there, unless there are 16 others
 abbrev pub with_watch : List Watch → Watch → List Watch
@@ -212,27 +212,27 @@ with_watch watches w =
 abbrev pub watch : (count address : ℕ) → Watch
 watch count address = record { address = address; count = count }
 
-abbrev pub watch_reply : List Symbol → List Watch → Watch → List ℕ
-watch_reply symbols watches w =
-    if nat_le 16 (length (unwatched w.address watches)) then full_watches_line else watch_line symbols w.address w.count
+abbrev pub watch_reply : Legend → List Watch → Watch → List ℕ
+watch_reply legend watches w =
+    if nat_le 16 (length (unwatched w.address watches)) then full_watches_line else watch_line legend w.address w.count
 
-abbrev pub watch_act : List Symbol → Plan → Span → Session → Act
-watch_act symbols plan at s =
-    by_value (evaluated symbols at.from s.machine) s (λ address. only_told s (watch_reply symbols plan.watches (watch at.count address)))
+abbrev pub watch_act : Legend → Plan → Span → Session → Act
+watch_act legend plan at s =
+    by_value (evaluated legend at.from s.machine) s (λ address. only_told s (watch_reply legend plan.watches (watch at.count address)))
 
 abbrev pub watched_at : Plan → (count address : ℕ) → Plan
 watched_at plan count address = record plan { watches = with_watch plan.watches (watch count address) }
 
-abbrev pub watches_with : List Symbol → Plan → Span → Session → Plan
-watches_with symbols plan at s = by_address (evaluated symbols at.from s.machine) plan (watched_at plan at.count)
+abbrev pub watches_with : Legend → Plan → Span → Session → Plan
+watches_with legend plan at s = by_address (evaluated legend at.from s.machine) plan (watched_at plan at.count)
 
-abbrev pub clear_act : List Symbol → Expression → Session → Act
-clear_act symbols e s = by_value (evaluated symbols e s.machine) s (λ address. only_told s done_line)
+abbrev pub clear_act : Legend → Expression → Session → Act
+clear_act legend e s = by_value (evaluated legend e s.machine) s (λ address. only_told s done_line)
 
 -- neither a stop nor a watch there
 abbrev pub cleared_at : Plan → ℕ → Plan
 cleared_at plan address =
     record { breaks = without address plan.breaks; watches = unwatched address plan.watches }
 
-abbrev pub breaks_without : List Symbol → Plan → Expression → Session → Plan
-breaks_without symbols plan e s = by_address (evaluated symbols e s.machine) plan (cleared_at plan)
+abbrev pub breaks_without : Legend → Plan → Expression → Session → Plan
+breaks_without legend plan e s = by_address (evaluated legend e s.machine) plan (cleared_at plan)

@@ -13,41 +13,41 @@ ghost use Rattle.vax_debug_acts.specs.Acts.{added_line, break_act, breaks_with, 
 use crate::reply::{reply_with, tell_done, tell_full, tell_full_watches, tell_no_value};
 use crate::stops::Setting;
 use vax_debug::{Breaks, Failure, Plan, Watch, Watches, evaluate};
-use vax_debug_names::Symbol;
+use vax_debug_names::Legend;
 use vax_debug_replies::{push_break_line, push_watch_line};
 use vax_debug_words::{Expression, Span};
 use vax_machine::Machine;
 use vax_outside::{PageFile, Sink, Text};
 
 /// Replies with the line of an address at which steps stop.
-fn tell_break<K: Sink>(symbols: &[Symbol], address: u32, sink: &mut K) -> Result<(), Failure>
+fn tell_break<K: Sink>(legend: &Legend, address: u32, sink: &mut K) -> Result<(), Failure>
     ensures { Replies result (K.faults sink.old) (K.faults sink.new)
-        (K.contents sink.old) (K.contents sink.new) (break_line symbols.now address) }
+        (K.contents sink.old) (K.contents sink.new) (break_line legend.now address) }
 {
     let mut text = Text::new();
-    push_break_line(&mut text, symbols, address);
+    push_break_line(&mut text, legend, address);
     reply_with(text.as_slice(), sink)
 }
 
 /// One more address, unless there are 16.
 fn add<K: Sink>(
-    symbols: &[Symbol],
+    legend: &Legend,
     address: u32,
     breaks: &mut Breaks,
     sink: &mut K,
 ) -> Result<(), Failure>
     ensures replies { Replies result (K.faults sink.old) (K.faults sink.new)
-        (K.contents sink.old) (K.contents sink.new) (added_line symbols.now breaks.old address) }
+        (K.contents sink.old) (K.contents sink.new) (added_line legend.now breaks.old address) }
     ensures breaks { breaks.new ≡ with_break breaks.old address }
 {
     if breaks.has(address) {
-        return tell_break(symbols, address, sink);
+        return tell_break(legend, address, sink);
     }
     if breaks.is_full() {
         return tell_full(sink);
     }
     breaks.add(address);
-    tell_break(symbols, address, sink)
+    tell_break(legend, address, sink)
 }
 
 /// Neither a stop nor a watch at an address.
@@ -62,26 +62,26 @@ fn remove<K: Sink>(address: u32, plan: &mut Plan, sink: &mut K) -> Result<(), Fa
 }
 
 /// Replies with the line of a watch.
-fn tell_watch<K: Sink>(symbols: &[Symbol], watch: Watch, sink: &mut K) -> Result<(), Failure>
+fn tell_watch<K: Sink>(legend: &Legend, watch: Watch, sink: &mut K) -> Result<(), Failure>
     ensures { Replies result (K.faults sink.old) (K.faults sink.new)
         (K.contents sink.old) (K.contents sink.new)
-        (watch_line symbols.now watch.address watch.count) }
+        (watch_line legend.now watch.address watch.count) }
 {
     let mut text = Text::new();
-    push_watch_line(&mut text, symbols, watch.address, watch.count);
+    push_watch_line(&mut text, legend, watch.address, watch.count);
     reply_with(text.as_slice(), sink)
 }
 
 /// One more watch, in place of those that begin there, unless there are 16 others.
 fn add_watch<K: Sink>(
-    symbols: &[Symbol],
+    legend: &Legend,
     watch: Watch,
     watches: &mut Watches,
     sink: &mut K,
 ) -> Result<(), Failure>
     ensures replies { Replies result (K.faults sink.old) (K.faults sink.new)
         (K.contents sink.old) (K.contents sink.new)
-        (watch_reply symbols.now watches.old watch) }
+        (watch_reply legend.now watches.old watch) }
     ensures watches { watches.new ≡ with_watch watches.old watch }
 {
     let mut left = watches.beside(watch.address);
@@ -90,7 +90,7 @@ fn add_watch<K: Sink>(
     }
     left.add(watch);
     *watches = left;
-    tell_watch(symbols, watch, sink)
+    tell_watch(legend, watch, sink)
 }
 
 /// Steps are to stop at an address, unless there are 16 others.
@@ -107,16 +107,16 @@ pub fn stop_at<F: PageFile, K: Sink>(
         (scene (engine machine.old) (F.contents file.old) (K.contents sink.old))
         (scene (engine machine.new) (F.contents file.new) (K.contents sink.new)) result
         setting.now.limits.now
-        (break_act setting.now.symbols.now plan.old at.now) }
+        (break_act setting.now.legend.now plan.old at.now) }
     ensures breaks { BreaksFrom
         (scene (engine machine.old) (F.contents file.old) (K.contents sink.old)) result plan.new
-        (breaks_with setting.now.symbols.now plan.old at.now) }
+        (breaks_with setting.now.legend.now plan.old at.now) }
     ensures counts { Counts result (F.faults file.old) (F.faults file.new) (K.faults sink.old)
         (K.faults sink.new) }
     ensures only { OnlyReplied (K.contents sink.old) (K.contents sink.new) }
 {
-    match evaluate(setting.symbols, at, machine, file) {
-        Ok(Some(address)) => add(setting.symbols, address, &mut plan.breaks, sink),
+    match evaluate(setting.legend, at, machine, file) {
+        Ok(Some(address)) => add(setting.legend, address, &mut plan.breaks, sink),
         Ok(None) => tell_no_value(sink),
         Err(_) => Err(Failure::PageFault),
     }
@@ -136,21 +136,21 @@ pub fn watch<F: PageFile, K: Sink>(
         (scene (engine machine.old) (F.contents file.old) (K.contents sink.old))
         (scene (engine machine.new) (F.contents file.new) (K.contents sink.new)) result
         setting.now.limits.now
-        (watch_act setting.now.symbols.now plan.old at.now) }
+        (watch_act setting.now.legend.now plan.old at.now) }
     ensures breaks { BreaksFrom
         (scene (engine machine.old) (F.contents file.old) (K.contents sink.old)) result plan.new
-        (watches_with setting.now.symbols.now plan.old at.now) }
+        (watches_with setting.now.legend.now plan.old at.now) }
     ensures counts { Counts result (F.faults file.old) (F.faults file.new) (K.faults sink.old)
         (K.faults sink.new) }
     ensures only { OnlyReplied (K.contents sink.old) (K.contents sink.new) }
 {
-    match evaluate(setting.symbols, &at.from, machine, file) {
+    match evaluate(setting.legend, &at.from, machine, file) {
         Ok(Some(address)) => {
             let watch = Watch {
                 address,
                 count: at.count,
             };
-            add_watch(setting.symbols, watch, &mut plan.watches, sink)
+            add_watch(setting.legend, watch, &mut plan.watches, sink)
         }
         Ok(None) => tell_no_value(sink),
         Err(_) => Err(Failure::PageFault),
@@ -171,15 +171,15 @@ pub fn clear_at<F: PageFile, K: Sink>(
         (scene (engine machine.old) (F.contents file.old) (K.contents sink.old))
         (scene (engine machine.new) (F.contents file.new) (K.contents sink.new)) result
         setting.now.limits.now
-        (clear_act setting.now.symbols.now at.now) }
+        (clear_act setting.now.legend.now at.now) }
     ensures breaks { BreaksFrom
         (scene (engine machine.old) (F.contents file.old) (K.contents sink.old)) result plan.new
-        (breaks_without setting.now.symbols.now plan.old at.now) }
+        (breaks_without setting.now.legend.now plan.old at.now) }
     ensures counts { Counts result (F.faults file.old) (F.faults file.new) (K.faults sink.old)
         (K.faults sink.new) }
     ensures only { OnlyReplied (K.contents sink.old) (K.contents sink.new) }
 {
-    match evaluate(setting.symbols, at, machine, file) {
+    match evaluate(setting.legend, at, machine, file) {
         Ok(Some(address)) => remove(address, plan, sink),
         Ok(None) => tell_no_value(sink),
         Err(_) => Err(Failure::PageFault),

@@ -11,7 +11,7 @@ ghost use Rattle.vax_debug_acts.specs.Attempts.{turn_act};
 use crate::reply::reply_with;
 use crate::stops::{Setting, tell_plain_stop};
 use vax_debug::{Failure, Plan, attempt};
-use vax_debug_names::Symbol;
+use vax_debug_names::Legend;
 use vax_debug_replies::push_missed_line;
 use vax_machine::{Limits, Machine};
 use vax_outside::{PageFile, Sink, Text};
@@ -20,13 +20,13 @@ use vax_outside::{PageFile, Sink, Text};
 const PAGE_BYTES: u32 = 512;
 
 /// Replies which page an attempt missed.
-fn tell_missed<K: Sink>(symbols: &[Symbol], page: u32, sink: &mut K) -> Result<(), Failure>
+fn tell_missed<K: Sink>(legend: &Legend, page: u32, sink: &mut K) -> Result<(), Failure>
     ensures { Replies result (K.faults sink.old) (K.faults sink.new)
         (K.contents sink.old) (K.contents sink.new)
-        (missed_line symbols.now (start_of_page page)) }
+        (missed_line legend.now (start_of_page page)) }
 {
     let mut text = Text::new();
-    push_missed_line(&mut text, symbols, page.wrapping_mul(PAGE_BYTES));
+    push_missed_line(&mut text, legend, page.wrapping_mul(PAGE_BYTES));
     reply_with(text.as_slice(), sink)
 }
 
@@ -51,7 +51,7 @@ pub fn turn<F: PageFile, K: Sink>(
         (scene (engine machine.old) (F.contents file.old) (K.contents sink.old))
         (scene (engine machine.new) (F.contents file.new) (K.contents sink.new)) result
         setting.now.limits.now
-        (turn_act setting.now.limits.now.steps setting.now.symbols.now plan.now
+        (turn_act setting.now.limits.now.steps setting.now.legend.now plan.now
         (pages_at (engine machine.old))) }
     ensures counts { Counts result (F.faults file.old) (F.faults file.new) (K.faults sink.old)
         (K.faults sink.new) }
@@ -61,7 +61,7 @@ pub fn turn<F: PageFile, K: Sink>(
         return tell_plain_stop(setting, plan, machine, file, sink);
     }
     match attempt(machine, setting.limits, setting.schedule, file, sink) {
-        Ok(Some(page)) => tell_missed(setting.symbols, page, sink),
+        Ok(Some(page)) => tell_missed(setting.legend, page, sink),
         Ok(None) => tell_plain_stop(setting, plan, machine, file, sink),
         Err(failure) => Err(failure),
     }

@@ -108,12 +108,12 @@ fn put_result<F: PageFile, K: Sink>(
         (scene (engine machine.old) (F.contents file.old) (K.contents sink.old))
         (scene (engine machine.new) (F.contents file.new) (K.contents sink.new)) result
         setting.now.limits.now
-        (put_value_act setting.now.symbols.now address (Number size number.now)) }
+        (put_value_act setting.now.legend.now address (Number size number.now)) }
     ensures counts { Counts result (F.faults file.old) (F.faults file.new) (K.faults sink.old)
         (K.faults sink.new) }
     ensures only { OnlyReplied (K.contents sink.old) (K.contents sink.new) }
 {
-    match evaluate(setting.symbols, number, machine, file) {
+    match evaluate(setting.legend, number, machine, file) {
         Ok(Some(number)) => put_number(address, size, number, machine, file, sink),
         Ok(None) => tell_no_value(sink),
         Err(_) => Err(Failure::PageFault),
@@ -134,7 +134,7 @@ fn put_value<F: PageFile, K: Sink>(
         (scene (engine machine.old) (F.contents file.old) (K.contents sink.old))
         (scene (engine machine.new) (F.contents file.new) (K.contents sink.new)) result
         setting.now.limits.now
-        (put_value_act setting.now.symbols.now address given.now) }
+        (put_value_act setting.now.legend.now address given.now) }
     ensures counts { Counts result (F.faults file.old) (F.faults file.new) (K.faults sink.old)
         (K.faults sink.new) }
     ensures only { OnlyReplied (K.contents sink.old) (K.contents sink.new) }
@@ -163,12 +163,12 @@ pub fn deposit_into_memory<F: PageFile, K: Sink>(
         (scene (engine machine.old) (F.contents file.old) (K.contents sink.old))
         (scene (engine machine.new) (F.contents file.new) (K.contents sink.new)) result
         setting.now.limits.now
-        (memory_act setting.now.symbols.now to.now given.now) }
+        (memory_act setting.now.legend.now to.now given.now) }
     ensures counts { Counts result (F.faults file.old) (F.faults file.new) (K.faults sink.old)
         (K.faults sink.new) }
     ensures only { OnlyReplied (K.contents sink.old) (K.contents sink.new) }
 {
-    match evaluate(setting.symbols, to, machine, file) {
+    match evaluate(setting.legend, to, machine, file) {
         Ok(Some(address)) => put_value(address, given, setting, machine, file, sink),
         Ok(None) => tell_no_value(sink),
         Err(_) => Err(Failure::PageFault),
@@ -211,12 +211,12 @@ pub fn deposit_into_register<F: PageFile, K: Sink>(
         (scene (engine machine.old) (F.contents file.old) (K.contents sink.old))
         (scene (engine machine.new) (F.contents file.new) (K.contents sink.new)) result
         setting.now.limits.now
-        (register_act setting.now.symbols.now register given.now) }
+        (register_act setting.now.legend.now register given.now) }
     ensures counts { Counts result (F.faults file.old) (F.faults file.new) (K.faults sink.old)
         (K.faults sink.new) }
     ensures only { OnlyReplied (K.contents sink.old) (K.contents sink.new) }
 {
-    match evaluate(setting.symbols, given, machine, file) {
+    match evaluate(setting.legend, given, machine, file) {
         Ok(Some(value)) => put_into_register(register, value, machine, file, sink),
         Ok(None) => tell_no_value(sink),
         Err(_) => Err(Failure::PageFault),

@@ -55,12 +55,12 @@ pub fn evict_at<F: PageFile, K: Sink>(
         (scene (engine machine.old) (F.contents file.old) (K.contents sink.old))
         (scene (engine machine.new) (F.contents file.new) (K.contents sink.new)) result
         setting.now.limits.now
-        (evict_act setting.now.symbols.now at.now) }
+        (evict_act setting.now.legend.now at.now) }
     ensures counts { Counts result (F.faults file.old) (F.faults file.new) (K.faults sink.old)
         (K.faults sink.new) }
     ensures only { OnlyReplied (K.contents sink.old) (K.contents sink.new) }
 {
-    match evaluate(setting.symbols, at, machine, file) {
+    match evaluate(setting.legend, at, machine, file) {
         Ok(Some(address)) => evict_page(address / PAGE_BYTES, machine, file, sink),
         Ok(None) => tell_no_value(sink),
         Err(_) => Err(Failure::PageFault),

@@ -29,7 +29,7 @@ fn step_seen<F: PageFile, K: Sink>(
         (scene (engine machine.old) (F.contents file.old) (K.contents sink.old))
         (scene (engine machine.new) (F.contents file.new) (K.contents sink.new)) result
         setting.now.limits.now
-        (step_seen setting.now.limits.now.steps setting.now.symbols.now plan.now count seen.now) }
+        (step_seen setting.now.limits.now.steps setting.now.legend.now plan.now count seen.now) }
     ensures counts { Counts result (F.faults file.old) (F.faults file.new) (K.faults sink.old)
         (K.faults sink.new) }
     ensures only { OnlyReplied (K.contents sink.old) (K.contents sink.new) }
@@ -66,7 +66,7 @@ pub fn step<F: PageFile, K: Sink>(
         (scene (engine machine.old) (F.contents file.old) (K.contents sink.old))
         (scene (engine machine.new) (F.contents file.new) (K.contents sink.new)) result
         setting.now.limits.now
-        (step_act setting.now.limits.now.steps setting.now.symbols.now plan.now count) }
+        (step_act setting.now.limits.now.steps setting.now.legend.now plan.now count) }
     ensures counts { Counts result (F.faults file.old) (F.faults file.new) (K.faults sink.old)
         (K.faults sink.new) }
     ensures only { OnlyReplied (K.contents sink.old) (K.contents sink.new) }
@@ -91,7 +91,7 @@ fn go_seen<F: PageFile, K: Sink>(
         (scene (engine machine.old) (F.contents file.old) (K.contents sink.old))
         (scene (engine machine.new) (F.contents file.new) (K.contents sink.new)) result
         setting.now.limits.now
-        (go_seen setting.now.limits.now.steps setting.now.symbols.now plan.now seen.now) }
+        (go_seen setting.now.limits.now.steps setting.now.legend.now plan.now seen.now) }
     ensures counts { Counts result (F.faults file.old) (F.faults file.new) (K.faults sink.old)
         (K.faults sink.new) }
     ensures only { OnlyReplied (K.contents sink.old) (K.contents sink.new) }
@@ -126,7 +126,7 @@ pub fn go<F: PageFile, K: Sink>(
         (scene (engine machine.old) (F.contents file.old) (K.contents sink.old))
         (scene (engine machine.new) (F.contents file.new) (K.contents sink.new)) result
         setting.now.limits.now
-        (go_act setting.now.limits.now.steps setting.now.symbols.now plan.now) }
+        (go_act setting.now.limits.now.steps setting.now.legend.now plan.now) }
     ensures counts { Counts result (F.faults file.old) (F.faults file.new) (K.faults sink.old)
         (K.faults sink.new) }
     ensures only { OnlyReplied (K.contents sink.old) (K.contents sink.new) }
@@ -151,7 +151,7 @@ fn over_seen<F: PageFile, K: Sink>(
         (scene (engine machine.old) (F.contents file.old) (K.contents sink.old))
         (scene (engine machine.new) (F.contents file.new) (K.contents sink.new)) result
         setting.now.limits.now
-        (over_seen setting.now.limits.now.steps setting.now.symbols.now plan.now seen.now) }
+        (over_seen setting.now.limits.now.steps setting.now.legend.now plan.now seen.now) }
     ensures counts { Counts result (F.faults file.old) (F.faults file.new) (K.faults sink.old)
         (K.faults sink.new) }
     ensures only { OnlyReplied (K.contents sink.old) (K.contents sink.new) }
@@ -186,7 +186,7 @@ pub fn over<F: PageFile, K: Sink>(
         (scene (engine machine.old) (F.contents file.old) (K.contents sink.old))
         (scene (engine machine.new) (F.contents file.new) (K.contents sink.new)) result
         setting.now.limits.now
-        (over_act setting.now.limits.now.steps setting.now.symbols.now plan.now) }
+        (over_act setting.now.limits.now.steps setting.now.legend.now plan.now) }
     ensures counts { Counts result (F.faults file.old) (F.faults file.new) (K.faults sink.old)
         (K.faults sink.new) }
     ensures only { OnlyReplied (K.contents sink.old) (K.contents sink.new) }
@@ -212,7 +212,7 @@ fn go_to_seen<F: PageFile, K: Sink>(
         (scene (engine machine.old) (F.contents file.old) (K.contents sink.old))
         (scene (engine machine.new) (F.contents file.new) (K.contents sink.new)) result
         setting.now.limits.now
-        (goal_seen setting.now.limits.now.steps setting.now.symbols.now plan.now goal seen.now) }
+        (goal_seen setting.now.limits.now.steps setting.now.legend.now plan.now goal seen.now) }
     ensures counts { Counts result (F.faults file.old) (F.faults file.new) (K.faults sink.old)
         (K.faults sink.new) }
     ensures only { OnlyReplied (K.contents sink.old) (K.contents sink.new) }
@@ -249,7 +249,7 @@ fn go_to<F: PageFile, K: Sink>(
         (scene (engine machine.old) (F.contents file.old) (K.contents sink.old))
         (scene (engine machine.new) (F.contents file.new) (K.contents sink.new)) result
         setting.now.limits.now
-        (to_goal setting.now.limits.now.steps setting.now.symbols.now plan.now goal) }
+        (to_goal setting.now.limits.now.steps setting.now.legend.now plan.now goal) }
     ensures counts { Counts result (F.faults file.old) (F.faults file.new) (K.faults sink.old)
         (K.faults sink.new) }
     ensures only { OnlyReplied (K.contents sink.old) (K.contents sink.new) }
@@ -275,12 +275,12 @@ pub fn until<F: PageFile, K: Sink>(
         (scene (engine machine.old) (F.contents file.old) (K.contents sink.old))
         (scene (engine machine.new) (F.contents file.new) (K.contents sink.new)) result
         setting.now.limits.now
-        (until_act setting.now.limits.now.steps setting.now.symbols.now plan.now to.now) }
+        (until_act setting.now.limits.now.steps setting.now.legend.now plan.now to.now) }
     ensures counts { Counts result (F.faults file.old) (F.faults file.new) (K.faults sink.old)
         (K.faults sink.new) }
     ensures only { OnlyReplied (K.contents sink.old) (K.contents sink.new) }
 {
-    match evaluate(setting.symbols, to, machine, file) {
+    match evaluate(setting.legend, to, machine, file) {
         Ok(Some(address)) => {
             let goal = Goal { address, least: 0 };
             go_to(goal, setting, plan, machine, file, sink)
@@ -303,7 +303,7 @@ pub fn leave<F: PageFile, K: Sink>(
         (scene (engine machine.old) (F.contents file.old) (K.contents sink.old))
         (scene (engine machine.new) (F.contents file.new) (K.contents sink.new)) result
         setting.now.limits.now
-        (out_act setting.now.limits.now.steps setting.now.symbols.now plan.now) }
+        (out_act setting.now.limits.now.steps setting.now.legend.now plan.now) }
     ensures counts { Counts result (F.faults file.old) (F.faults file.new) (K.faults sink.old)
         (K.faults sink.new) }
     ensures only { OnlyReplied (K.contents sink.old) (K.contents sink.new) }

@@ -54,12 +54,12 @@ pub fn deposit_into_status<F: PageFile, K: Sink>(
         (scene (engine machine.old) (F.contents file.old) (K.contents sink.old))
         (scene (engine machine.new) (F.contents file.new) (K.contents sink.new)) result
         setting.now.limits.now
-        (status_act setting.now.symbols.now given.now) }
+        (status_act setting.now.legend.now given.now) }
     ensures counts { Counts result (F.faults file.old) (F.faults file.new) (K.faults sink.old)
         (K.faults sink.new) }
     ensures only { OnlyReplied (K.contents sink.old) (K.contents sink.new) }
 {
-    match evaluate(setting.symbols, given, machine, file) {
+    match evaluate(setting.legend, given, machine, file) {
         Ok(Some(value)) => put_into_status(value, machine, file, sink),
         Ok(None) => tell_no_value(sink),
         Err(_) => Err(Failure::PageFault),
@@ -100,12 +100,12 @@ pub fn deposit_into_field<F: PageFile, K: Sink>(
         (scene (engine machine.old) (F.contents file.old) (K.contents sink.old))
         (scene (engine machine.new) (F.contents file.new) (K.contents sink.new)) result
         setting.now.limits.now
-        (field_act setting.now.symbols.now field given.now) }
+        (field_act setting.now.legend.now field given.now) }
     ensures counts { Counts result (F.faults file.old) (F.faults file.new) (K.faults sink.old)
         (K.faults sink.new) }
     ensures only { OnlyReplied (K.contents sink.old) (K.contents sink.new) }
 {
-    match evaluate(setting.symbols, given, machine, file) {
+    match evaluate(setting.legend, given, machine, file) {
         Ok(Some(value)) => put_into_field(field, value, machine, file, sink),
         Ok(None) => tell_no_value(sink),
         Err(_) => Err(Failure::PageFault),

@@ -12,7 +12,7 @@ ghost use Rattle.vax_debug_acts.specs.Acts.{changes, stop_reply, stop_text, why_
 use crate::changes::{Sights, tell_all_changes};
 use crate::reply::reply_with;
 use vax_debug::{Breaks, Failure, Plan, Snapshot, examine, look};
-use vax_debug_names::Symbol;
+use vax_debug_names::Legend;
 use vax_debug_replies::{push_here, push_reason};
 use vax_flat::Ending;
 use vax_machine::{Limits, Machine};
@@ -23,8 +23,8 @@ use vax_sched::Schedule;
 /// What a machine is debugged under.
 #[derive(Clone, Copy)]
 pub struct Setting<'a> {
-    /// The symbols of its program.
-    pub symbols: &'a [Symbol],
+    /// What its program is told by.
+    pub legend: &'a Legend<'a>,
     /// The limits of the whole session.
     pub limits: &'a Limits,
     /// When pages are made absent.
@@ -76,23 +76,23 @@ fn tell_reason<K: Sink>(last: Option<Last>, sink: &mut K) -> Result<(), Failure>
 
 /// Replies where steps stopped.
 fn tell_here<K: Sink>(
-    symbols: &[Symbol],
+    legend: &Legend,
     address: u32,
     cells: &[Option<u8>],
     sink: &mut K,
 ) -> Result<(), Failure>
     requires { length cells.now ≤ 64 }
     ensures { Replies result (K.faults sink.old) (K.faults sink.new)
-        (K.contents sink.old) (K.contents sink.new) (here symbols.now address cells.now) }
+        (K.contents sink.old) (K.contents sink.new) (here legend.now address cells.now) }
 {
     let mut text = Text::new();
-    push_here(&mut text, symbols, address, cells);
+    push_here(&mut text, legend, address, cells);
     reply_with(text.as_slice(), sink)
 }
 
 /// Replies which watched bytes were changed, and where steps stopped.
 fn tell_changes_here<K: Sink>(
-    symbols: &[Symbol],
+    legend: &Legend,
     seen: &Sights,
     address: u32,
     cells: &[Option<u8>],
@@ -101,11 +101,11 @@ fn tell_changes_here<K: Sink>(
     requires { length cells.now ≤ 64 }
     ensures { Replies result (K.faults sink.old) (K.faults sink.new)
         (K.contents sink.old) (K.contents sink.new)
-        (changes symbols.now seen.now.before.now seen.now.after.now
-        ++ here symbols.now address cells.now) }
+        (changes legend.now seen.now.before.now seen.now.after.now
+        ++ here legend.now address cells.now) }
 {
-    match tell_all_changes(symbols, seen, sink) {
-        Ok(()) => tell_here(symbols, address, cells, sink),
+    match tell_all_changes(legend, seen, sink) {
+        Ok(()) => tell_here(legend, address, cells, sink),
         Err(failure) => Err(failure),
     }
 }
@@ -120,7 +120,7 @@ struct Here<'a> {
 /// Replies why steps stopped, which watched bytes were changed, and where it is.
 fn reply_stop<K: Sink>(
     last: Option<Last>,
-    symbols: &[Symbol],
+    legend: &Legend,
     seen: &Sights,
     place: &Here,
     sink: &mut K,
@@ -128,11 +128,11 @@ fn reply_stop<K: Sink>(
     requires { length place.now.cells.now ≤ 64 }
     ensures { Replies result (K.faults sink.old) (K.faults sink.new)
         (K.contents sink.old) (K.contents sink.new)
-        (reason last ++ changes symbols.now seen.now.before.now seen.now.after.now
-        ++ here symbols.now place.now.address place.now.cells.now) }
+        (reason last ++ changes legend.now seen.now.before.now seen.now.after.now
+        ++ here legend.now place.now.address place.now.cells.now) }
 {
     match tell_reason(last, sink) {
-        Ok(()) => tell_changes_here(symbols, seen, place.address, place.cells, sink),
+        Ok(()) => tell_changes_here(legend, seen, place.address, place.cells, sink),
         Err(failure) => Err(failure),
     }
 }
@@ -149,8 +149,8 @@ fn tell_stop_here<F: PageFile, K: Sink>(
     ensures replies { RepliesFrom
         (scene (engine machine.old) (F.contents file.old) (K.contents sink.old))
         (scene (engine machine.new) (F.contents file.new) (K.contents sink.new)) result
-        (stop_text setting.now.limits.now.steps setting.now.symbols.now plan.now.breaks
-        (changes setting.now.symbols.now seen.now.before.now seen.now.after.now)) }
+        (stop_text setting.now.limits.now.steps setting.now.legend.now plan.now.breaks
+        (changes setting.now.legend.now seen.now.before.now seen.now.after.now)) }
     ensures counts { Counts result (F.faults file.old) (F.faults file.new) (K.faults sink.old)
         (K.faults sink.new) }
     ensures only { OnlyReplied (K.contents sink.old) (K.contents sink.new) }
@@ -164,7 +164,7 @@ fn tell_stop_here<F: PageFile, K: Sink>(
                 address,
                 cells: &cells,
             };
-            reply_stop(last, setting.symbols, seen, &place, sink)
+            reply_stop(last, setting.legend, seen, &place, sink)
         }
         Err(_) => Err(Failure::PageFault),
     }
@@ -182,7 +182,7 @@ pub(crate) fn tell_stop<F: PageFile, K: Sink>(
     ensures replies { RepliesFrom
         (scene (engine machine.old) (F.contents file.old) (K.contents sink.old))
         (scene (engine machine.new) (F.contents file.new) (K.contents sink.new)) result
-        (stop_reply setting.now.limits.now.steps setting.now.symbols.now plan.now seen.now) }
+        (stop_reply setting.now.limits.now.steps setting.now.legend.now plan.now seen.now) }
     ensures counts { Counts result (F.faults file.old) (F.faults file.new) (K.faults sink.old)
         (K.faults sink.new) }
     ensures only { OnlyReplied (K.contents sink.old) (K.contents sink.new) }
@@ -210,7 +210,7 @@ pub(crate) fn tell_plain_stop<F: PageFile, K: Sink>(
     ensures replies { RepliesFrom
         (scene (engine machine.old) (F.contents file.old) (K.contents sink.old))
         (scene (engine machine.new) (F.contents file.new) (K.contents sink.new)) result
-        (stop_reply setting.now.limits.now.steps setting.now.symbols.now plan.now []) }
+        (stop_reply setting.now.limits.now.steps setting.now.legend.now plan.now []) }
     ensures counts { Counts result (F.faults file.old) (F.faults file.new) (K.faults sink.old)
         (K.faults sink.new) }
     ensures only { OnlyReplied (K.contents sink.old) (K.contents sink.new) }

@@ -1,8 +1,9 @@
--- The values of names, and the names of addresses.
-use Rattle.std.specs.Prelude.{ℕ, ◌+◌, ◌-◌, ◌&&◌, Bool, true, nat_le, nat_lt, List, [], ◌∷◌, Option, None, Some, if◌then◌else◌}
+-- The values of names, the names of addresses, and the statements that are there.
+use Rattle.std.specs.Prelude.{ℕ, ◌+◌, ◌-◌, ◌==◌, ◌&&◌, Bool, true, nat_le, nat_lt, List, [], ◌∷◌, Option, None, Some, if◌then◌else◌}
 use Rattle.std.specs.Str.{bytes_eq}
 use Rattle.vax_debug_words.specs.Expressions.{longword}
 use Rattle.vax_debug_names.specs.declared.Symbol.{Symbol}
+use Rattle.vax_debug_names.specs.declared.SourceLine.{SourceLine}
 use Rattle.vax_debug_names.specs.declared.Near.{Near}
 
 -- that of the first symbol with this name
@@ -43,3 +44,8 @@ nearest_from index address found (symbol ∷ symbols) =
 -- of all symbols
 abbrev pub nearest : List Symbol → (address : ℕ) → Option Near
 nearest symbols address = nearest_from 0 address None symbols
+
+-- the first statement whose first byte is at an address
+unfoldable pub line_at : List SourceLine → (address : ℕ) → Option SourceLine
+line_at [] address = None
+line_at (line ∷ lines) address = if line.address == address then Some line else line_at lines address

@@ -1,10 +1,11 @@
-//! The symbols of a program, while it is debugged: the address of a name, and the name of an address.
+//! The symbols and the source lines of a program, while it is debugged: the address of a name, the name of an address, and the line whose statement is there.
 #![tactic(auto)]
 
-ghost use Rattle.std.specs.Prelude.{◌≡◌};
+ghost use Rattle.std.specs.Prelude.{◌≡◌, option_map};
 ghost use Rattle.vax_debug_names.specs.Names as spec;
 
 use vax_debug_words::longword;
+use vax_prelude::Prelude;
 use vax_space::Bytes;
 
 /// A symbol of a program.
@@ -16,6 +17,28 @@ pub struct Symbol {
     pub value: u32,
     /// Whether that is an address in the program, and no mere number.
     pub is_place: bool,
+}
+
+/// A statement of a source, and the address of its first byte.
+#[derive(Drop)]
+pub struct SourceLine {
+    pub address: u32,
+    /// Its file, by its place among those of the program.
+    pub file: usize,
+    /// The number of its line in the text that is assembled for the file, from 1 on.
+    pub number: u32,
+    pub text: Bytes,
+}
+
+/// What a program is told by: its symbols, and the lines of its sources.
+#[derive(Clone, Copy)]
+pub struct Legend<'a> {
+    pub symbols: &'a [Symbol],
+    pub lines: &'a [SourceLine],
+    /// The names of its files.
+    pub names: &'a [&'a str],
+    /// What stands before each of its sources.
+    pub preludes: &'a [Prelude<'a>],
 }
 
 /// An address as a symbol and a distance from it.
@@ -92,4 +115,16 @@ pub fn nearest(symbols: &[Symbol], address: u32) -> Option<Near>
         found = nearer(index, address, symbol, found);
     }
     found
+}
+
+/// The first statement whose first byte is at an address.
+pub fn line_at<'a>(lines: &'a [SourceLine], address: u32) -> Option<&'a SourceLine>
+    ensures { option_map (λ line. line.now) result ≡ spec.line_at lines.entry.now address }
+{
+    for line in lines {
+        if line.address == address {
+            return Some(line);
+        }
+    }
+    None
 }

@@ -6,7 +6,7 @@ use Rattle.vax_debug_words.specs.Requests.{is_meant}
 use Rattle.vax_debug_words.specs.declared.command.Command.{Command}
 use Rattle.vax_debug_words.specs.declared.request.Refusal.{Refusal}
 use Rattle.vax_debug_words.specs.declared.request.Refusal.TheVariants as refusal
-use Rattle.vax_debug_names.specs.declared.Symbol.{Symbol}
+use Rattle.vax_debug_names.specs.declared.Legend.{Legend}
 use Rattle.vax_debug_replies.specs.Stops.{break_line}
 
 abbrev pub usage_line : Command → List ℕ
@@ -36,6 +36,6 @@ help (Some command) = usage_line command
 help None = flat_map usage_line commands
 
 -- where steps are to stop, or that they aren't
-unfoldable pub breaks_shown : List Symbol → List ℕ → List ℕ
-breaks_shown symbols [] = codes "NO BREAKS\n"
-breaks_shown symbols (address ∷ breaks) = flat_map (break_line symbols) (address ∷ breaks)
+unfoldable pub breaks_shown : Legend → List ℕ → List ℕ
+breaks_shown legend [] = codes "NO BREAKS\n"
+breaks_shown legend (address ∷ breaks) = flat_map (break_line legend) (address ∷ breaks)

@@ -2,7 +2,8 @@
 use Rattle.std.specs.Prelude.{ℕ, List, [], ◌∷◌, ◌++◌, codes, Option, None, Some}
 use Rattle.vax_outside.specs.Hex.{hex}
 use Rattle.vax_disasm.specs.Listed.{Listing, listed}
-use Rattle.vax_debug_names.specs.declared.Symbol.{Symbol}
+use Rattle.vax_debug_names.specs.declared.Legend.{Legend}
+use Rattle.vax_debug_replies.specs.Sources.{source_line}
 use Rattle.vax_debug_replies.specs.Values.{head}
 
 -- the bytes up to the first that isn't there
@@ -34,5 +35,9 @@ text_of None cells = unlisted cells
 text_of (Some l) cells = l.text
 
 -- the line of the instruction that these cells begin with
-unfoldable pub instruction_line : List Symbol → (address : ℕ) → List (Option ℕ) → List ℕ
-instruction_line symbols address cells = head symbols address ++ text_of (instruction_at address cells) cells ++ 10 ∷ []
+unfoldable pub instruction_line : Legend → (address : ℕ) → List (Option ℕ) → List ℕ
+instruction_line legend address cells = head legend address ++ text_of (instruction_at address cells) cells ++ 10 ∷ []
+
+-- as it is listed: where it begins a statement, that stands before it
+unfoldable pub listed_instruction : Legend → (address : ℕ) → List (Option ℕ) → List ℕ
+listed_instruction legend address cells = source_line legend address ++ instruction_line legend address cells

@@ -6,3 +6,4 @@ pub mod Stops
 pub mod Frames
 pub mod Help
 pub mod Pages
+pub mod Sources

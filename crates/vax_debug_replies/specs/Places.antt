@@ -3,6 +3,7 @@ use Rattle.std.specs.Prelude.{ℕ, ◌==◌, List, [], ◌∷◌, ◌++◌, take
 use Rattle.std.specs.List.{prefix_len}
 use Rattle.vax_outside.specs.Hex.{hex}
 use Rattle.vax_debug_names.specs.Names.{nearest}
+use Rattle.vax_debug_names.specs.declared.Legend.{Legend}
 use Rattle.vax_debug_names.specs.declared.Symbol.{Symbol}
 use Rattle.vax_debug_names.specs.declared.Near.{Near}
 
@@ -28,5 +29,5 @@ near symbols None = []
 near symbols (Some found) = name_of (slice_get symbols found.index) found.distance
 
 -- an address, and behind it the nearest symbol
-unfoldable pub place : List Symbol → ℕ → List ℕ
-place symbols address = hex 8 address ++ near symbols (nearest symbols address)
+unfoldable pub place : Legend → ℕ → List ℕ
+place legend address = hex 8 address ++ near legend.symbols.now (nearest legend.symbols.now address)

@@ -2,12 +2,12 @@
 use Rattle.std.specs.Prelude.{ℕ, ◌&&◌, nat_le, nat_lt, reverse, List, [], ◌∷◌, ◌++◌, codes, Option, None, Some, if◌then◌else◌}
 use Rattle.std.specs.List.{flat_map}
 use Rattle.vax_outside.specs.Hex.{hex}
-use Rattle.vax_debug_names.specs.declared.Symbol.{Symbol}
+use Rattle.vax_debug_names.specs.declared.Legend.{Legend}
 use Rattle.vax_debug_replies.specs.Places.{place}
 
 -- an address and a colon
-abbrev pub head : List Symbol → ℕ → List ℕ
-head symbols address = place symbols address ++ codes ": "
+abbrev pub head : Legend → ℕ → List ℕ
+head legend address = place legend address ++ codes ": "
 
 -- a byte in two digits, or two dashes where there is none
 abbrev pub digits_of : Option ℕ → List ℕ
@@ -19,8 +19,8 @@ abbrev pub value : List (Option ℕ) → List ℕ
 value cells = flat_map digits_of (reverse cells)
 
 -- at an address
-unfoldable pub value_line : List Symbol → ℕ → List (Option ℕ) → List ℕ
-value_line symbols address cells = head symbols address ++ value cells ++ 10 ∷ []
+unfoldable pub value_line : Legend → ℕ → List (Option ℕ) → List ℕ
+value_line legend address cells = head legend address ++ value cells ++ 10 ∷ []
 
 -- a character as it is, where it can be shown; a point where it can't, and a dash where there is none
 abbrev pub character : Option ℕ → ℕ
@@ -31,5 +31,5 @@ abbrev pub character_text : Option ℕ → List ℕ
 character_text cell = character cell ∷ []
 
 -- characters from an address on
-unfoldable pub ascii_line : List Symbol → ℕ → List (Option ℕ) → List ℕ
-ascii_line symbols address cells = head symbols address ++ flat_map character_text cells ++ 10 ∷ []
+unfoldable pub ascii_line : Legend → ℕ → List (Option ℕ) → List ℕ
+ascii_line legend address cells = head legend address ++ flat_map character_text cells ++ 10 ∷ []

@@ -9,7 +9,7 @@ ghost use Rattle.vax_debug_replies.specs.Help.{breaks_shown, help, refused, refu
 ghost use Rattle.vax_debug_replies.specs.Stops.{break_line};
 
 use crate::stops::push_break_line;
-use vax_debug_names::Symbol;
+use vax_debug_names::Legend;
 use vax_debug_words::{COMMANDS, Command, Refusal, is_meant, usage};
 use vax_outside::{Chan, Failed, Sink, Text, put_all};
 
@@ -119,43 +119,43 @@ pub fn write_help<K: Sink>(command: Option<Command>, sink: &mut K) -> Result<(),
 }
 
 /// Writes the line of an address at which steps stop.
-fn write_break<K: Sink>(symbols: &[Symbol], address: u32, sink: &mut K) -> Result<(), Failed>
+fn write_break<K: Sink>(legend: &Legend, address: u32, sink: &mut K) -> Result<(), Failed>
     ensures ok { OnOk result (Grew (K.contents sink.old) (K.contents sink.new)
-        (only Chan.Report (break_line symbols.now address))) }
+        (only Chan.Report (break_line legend.now address))) }
     ensures prefix { OnErr result (GrewByPrefix (K.contents sink.old) (K.contents sink.new)
-        (only Chan.Report (break_line symbols.now address))) }
+        (only Chan.Report (break_line legend.now address))) }
     ensures counts { CountsFailure (is_err result) (K.faults sink.old) (K.faults sink.new) }
 {
     let mut text = Text::new();
-    push_break_line(&mut text, symbols, address);
+    push_break_line(&mut text, legend, address);
     put_all(sink, Chan::Report, text.as_slice())
 }
 
 /// Writes the lines of addresses at which steps stop.
-fn write_each_break<K: Sink>(symbols: &[Symbol], breaks: &[u32], sink: &mut K) -> Result<(), Failed>
+fn write_each_break<K: Sink>(legend: &Legend, breaks: &[u32], sink: &mut K) -> Result<(), Failed>
     ensures ok { OnOk result (Grew (K.contents sink.old) (K.contents sink.new)
-        (only Chan.Report (flat_map (break_line symbols.now) breaks.now))) }
+        (only Chan.Report (flat_map (break_line legend.now) breaks.now))) }
     ensures prefix { OnErr result (GrewByPrefix (K.contents sink.old) (K.contents sink.new)
-        (only Chan.Report (flat_map (break_line symbols.now) breaks.now))) }
+        (only Chan.Report (flat_map (break_line legend.now) breaks.now))) }
     ensures counts { CountsFailure (is_err result) (K.faults sink.old) (K.faults sink.new) }
 {
     for address in breaks {
-        write_break(symbols, *address, sink)?;
+        write_break(legend, *address, sink)?;
     }
     Ok(())
 }
 
 /// Writes the lines of the addresses at which steps stop, or that there is none.
 #[tactic(auto, unfolding(crate::specs::Help::breaks_shown))]
-pub fn write_breaks<K: Sink>(symbols: &[Symbol], breaks: &[u32], sink: &mut K) -> Result<(), Failed>
+pub fn write_breaks<K: Sink>(legend: &Legend, breaks: &[u32], sink: &mut K) -> Result<(), Failed>
     ensures ok { OnOk result (Grew (K.contents sink.old) (K.contents sink.new)
-        (only Chan.Report (breaks_shown symbols.now breaks.now))) }
+        (only Chan.Report (breaks_shown legend.now breaks.now))) }
     ensures prefix { OnErr result (GrewByPrefix (K.contents sink.old) (K.contents sink.new)
-        (only Chan.Report (breaks_shown symbols.now breaks.now))) }
+        (only Chan.Report (breaks_shown legend.now breaks.now))) }
     ensures counts { CountsFailure (is_err result) (K.faults sink.old) (K.faults sink.new) }
 {
     match breaks.first() {
         None => put_all(sink, Chan::Report, b"NO BREAKS\n"),
-        Some(_) => write_each_break(symbols, breaks, sink),
+        Some(_) => write_each_break(legend, breaks, sink),
     }
 }

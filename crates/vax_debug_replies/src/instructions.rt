@@ -1,11 +1,12 @@
 //! The lines of instructions.
 ghost use Rattle.std.specs.Prelude.{◌≡◌, ◌+◌, ◌≤◌, ◌++◌, length, option_map};
 ghost use Rattle.vax_disasm.specs.Seen.{decoded_seen};
-ghost use Rattle.vax_debug_replies.specs.Instructions.{bytes_of, instruction_at, instruction_line, length_of, text_of, unlisted};
+ghost use Rattle.vax_debug_replies.specs.Instructions.{bytes_of, instruction_at, instruction_line, length_of, listed_instruction, text_of, unlisted};
 
+use crate::sources::push_source_line;
 use crate::values::push_head;
 use arrayvec::ArrayVec;
-use vax_debug_names::Symbol;
+use vax_debug_names::Legend;
 use vax_disasm::{Decoded, decode};
 use vax_outside::Text;
 
@@ -73,18 +74,25 @@ fn push_instruction(text: &mut Text, address: u32, cells: &[Option<u8>])
 
 /// Appends the line of the instruction that cells begin with, where these lie at an address.
 #[tactic(auto, unfolding(crate::specs::Instructions::instruction_line))]
-pub fn push_instruction_line(
-    text: &mut Text,
-    symbols: &[Symbol],
-    address: u32,
-    cells: &[Option<u8>],
-)
+pub fn push_instruction_line(text: &mut Text, legend: &Legend, address: u32, cells: &[Option<u8>])
     requires few { length cells.now ≤ 64 }
     requires room { length text.old + 212 ≤ 512 }
-    ensures exact { text.new ≡ text.old ++ instruction_line symbols.now address cells.now }
+    ensures exact { text.new ≡ text.old ++ instruction_line legend.now address cells.now }
     ensures short { length text.new ≤ length text.old + 212 }
 {
-    push_head(text, symbols, address);
+    push_head(text, legend, address);
     push_instruction(text, address, cells);
     text.push(b"\n");
+}
+
+/// Appends the line of an instruction as it is listed: where it begins a statement, the line of that stands before it.
+#[tactic(auto, unfolding(crate::specs::Instructions::listed_instruction))]
+pub fn push_listed_instruction(text: &mut Text, legend: &Legend, address: u32, cells: &[Option<u8>])
+    requires few { length cells.now ≤ 64 }
+    requires room { length text.old + 432 ≤ 512 }
+    ensures exact { text.new ≡ text.old ++ listed_instruction legend.now address cells.now }
+    ensures short { length text.new ≤ length text.old + 432 }
+{
+    push_source_line(text, legend, address);
+    push_instruction_line(text, legend, address, cells);
 }

@@ -3,7 +3,7 @@ ghost use Rattle.std.specs.Prelude.{◌≡◌, ◌+◌, ◌≤◌, ◌++◌, len
 ghost use Rattle.vax_debug_replies.specs.Pages.{frames_line, missed_line, page_line, state_text};
 
 use crate::places::push_place;
-use vax_debug_names::Symbol;
+use vax_debug_names::Legend;
 use vax_outside::Text;
 
 /// How a page stands in the machine's frames.
@@ -31,12 +31,12 @@ fn state_text(state: PageState) -> &'static [u8]
 
 /// Appends the line of the page at an address.
 #[tactic(auto, unfolding(crate::specs::Pages::page_line))]
-pub fn push_page_line(text: &mut Text, symbols: &[Symbol], address: u32, state: PageState)
+pub fn push_page_line(text: &mut Text, legend: &Legend, address: u32, state: PageState)
     requires { length text.old + 69 ≤ 512 }
-    ensures exact { text.new ≡ text.old ++ page_line symbols.now address state }
+    ensures exact { text.new ≡ text.old ++ page_line legend.now address state }
     ensures short { length text.new ≤ length text.old + 69 }
 {
-    push_place(text, symbols, address);
+    push_place(text, legend, address);
     text.push(b": ");
     text.push(state_text(state));
     text.push(b"\n");
@@ -56,12 +56,12 @@ pub fn push_frames_line(text: &mut Text, frames: u32)
 
 /// Appends the line of the page at an address that an attempt missed.
 #[tactic(auto, unfolding(crate::specs::Pages::missed_line))]
-pub fn push_missed_line(text: &mut Text, symbols: &[Symbol], address: u32)
+pub fn push_missed_line(text: &mut Text, legend: &Legend, address: u32)
     requires { length text.old + 57 ≤ 512 }
-    ensures exact { text.new ≡ text.old ++ missed_line symbols.now address }
+    ensures exact { text.new ≡ text.old ++ missed_line legend.now address }
     ensures short { length text.new ≤ length text.old + 57 }
 {
     text.push(b"MISSED ");
-    push_place(text, symbols, address);
+    push_place(text, legend, address);
     text.push(b"\n");
 }

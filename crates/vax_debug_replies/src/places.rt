@@ -2,7 +2,7 @@
 ghost use Rattle.std.specs.Prelude.{◌≡◌, ◌+◌, ◌≤◌, ◌++◌, length, take};
 ghost use Rattle.vax_debug_replies.specs.Places.{digits, distance, near, place, zeros};
 
-use vax_debug_names::{Near, Symbol, nearest};
+use vax_debug_names::{Legend, Near, Symbol, nearest};
 use vax_outside::Text;
 
 /// The most characters of a name that are shown.
@@ -47,7 +47,7 @@ fn push_distance(text: &mut Text, n: u32)
 }
 
 /// The first of some bytes, at most so many.
-fn first(bytes: &[u8], most: usize) -> &[u8]
+pub(crate) fn first(bytes: &[u8], most: usize) -> &[u8]
     ensures exact { result.now ≡ take most bytes.entry.now }
     ensures few { length result.now ≤ most }
 {
@@ -86,11 +86,12 @@ fn push_near(text: &mut Text, symbols: &[Symbol], found: Option<Near>)
 
 /// Appends an address: its eight digits, and behind them the nearest symbol.
 #[tactic(auto, unfolding(crate::specs::Places::place))]
-pub fn push_place(text: &mut Text, symbols: &[Symbol], address: u32)
+pub fn push_place(text: &mut Text, legend: &Legend, address: u32)
     requires { length text.old + 49 ≤ 512 }
-    ensures exact { text.new ≡ text.old ++ place symbols.now address }
+    ensures exact { text.new ≡ text.old ++ place legend.now address }
     ensures short { length text.new ≤ length text.old + 49 }
 {
+    let symbols = legend.symbols;
     text.push_hex8(address);
     push_near(text, symbols, nearest(symbols, address));
 }

@@ -4,16 +4,16 @@ ghost use Rattle.std.specs.List.{flat_map};
 ghost use Rattle.vax_debug_replies.specs.Values.{ascii_line, character, character_text, digits_of, head, value, value_line};
 
 use crate::places::push_place;
-use vax_debug_names::Symbol;
+use vax_debug_names::Legend;
 use vax_outside::Text;
 
 /// Appends the head of a line: an address and a colon.
-pub(crate) fn push_head(text: &mut Text, symbols: &[Symbol], address: u32)
+pub(crate) fn push_head(text: &mut Text, legend: &Legend, address: u32)
     requires { length text.old + 51 ≤ 512 }
-    ensures exact { text.new ≡ text.old ++ head symbols.now address }
+    ensures exact { text.new ≡ text.old ++ head legend.now address }
     ensures short { length text.new ≤ length text.old + 51 }
 {
-    push_place(text, symbols, address);
+    push_place(text, legend, address);
     text.push(b": ");
 }
 
@@ -52,13 +52,13 @@ pub(crate) fn push_value(text: &mut Text, cells: &mut [Option<u8>])
 
 /// Appends the line of a value of at most eight bytes, which lies at an address: its digits, the highest byte first. The cells are turned around.
 #[tactic(auto, unfolding(crate::specs::Values::value_line))]
-pub fn push_value_line(text: &mut Text, symbols: &[Symbol], address: u32, cells: &mut [Option<u8>])
+pub fn push_value_line(text: &mut Text, legend: &Legend, address: u32, cells: &mut [Option<u8>])
     requires few { length cells.old ≤ 8 }
     requires room { length text.old + 68 ≤ 512 }
-    ensures exact { text.new ≡ text.old ++ value_line symbols.now address cells.old }
+    ensures exact { text.new ≡ text.old ++ value_line legend.now address cells.old }
     ensures short { length text.new ≤ length text.old + 68 }
 {
-    push_head(text, symbols, address);
+    push_head(text, legend, address);
     push_value(text, cells);
     text.push(b"\n");
 }
@@ -75,13 +75,13 @@ fn character(cell: Option<u8>) -> u8
 
 /// Appends the line of at most 64 characters, which lie from an address on.
 #[tactic(auto, unfolding(crate::specs::Values::ascii_line))]
-pub fn push_ascii_line(text: &mut Text, symbols: &[Symbol], address: u32, cells: &[Option<u8>])
+pub fn push_ascii_line(text: &mut Text, legend: &Legend, address: u32, cells: &[Option<u8>])
     requires few { length cells.now ≤ 64 }
     requires room { length text.old + 116 ≤ 512 }
-    ensures exact { text.new ≡ text.old ++ ascii_line symbols.now address cells.now }
+    ensures exact { text.new ≡ text.old ++ ascii_line legend.now address cells.now }
     ensures short { length text.new ≤ length text.old + 116 }
 {
-    push_head(text, symbols, address);
+    push_head(text, legend, address);
     push_characters(text, cells);
     text.push(b"\n");
 }

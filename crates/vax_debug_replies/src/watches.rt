@@ -7,33 +7,33 @@ ghost use Rattle.vax_debug_replies.specs.Values.{head, value};
 
 use crate::places::push_place;
 use crate::values::{push_head, push_value};
-use vax_debug_names::Symbol;
+use vax_debug_names::Legend;
 use vax_outside::{Chan, Failed, Sink, Text, put_all};
 
 /// Appends the line of bytes that are watched.
-pub fn push_watch_line(text: &mut Text, symbols: &[Symbol], address: u32, count: u8)
+pub fn push_watch_line(text: &mut Text, legend: &Legend, address: u32, count: u8)
     requires { length text.old + 78 ≤ 512 }
-    ensures exact { text.new ≡ text.old ++ watch_line symbols.now address count }
+    ensures exact { text.new ≡ text.old ++ watch_line legend.now address count }
     ensures short { length text.new ≤ length text.old + 78 }
 {
     text.push(b"WATCH ");
-    push_place(text, symbols, address);
+    push_place(text, legend, address);
     text.push(b": ");
     text.push_decimal(u64::from(count));
     text.push(b"\n");
 }
 
 /// Writes the head of the line of a change.
-fn write_head<K: Sink>(symbols: &[Symbol], address: u32, sink: &mut K) -> Result<(), Failed>
+fn write_head<K: Sink>(legend: &Legend, address: u32, sink: &mut K) -> Result<(), Failed>
     ensures ok { OnOk result (Grew (K.contents sink.old) (K.contents sink.new)
-        (only Chan.Report (codes "WATCH " ++ head symbols.now address))) }
+        (only Chan.Report (codes "WATCH " ++ head legend.now address))) }
     ensures prefix { OnErr result (GrewByPrefix (K.contents sink.old) (K.contents sink.new)
-        (only Chan.Report (codes "WATCH " ++ head symbols.now address))) }
+        (only Chan.Report (codes "WATCH " ++ head legend.now address))) }
     ensures counts { CountsFailure (is_err result) (K.faults sink.old) (K.faults sink.new) }
 {
     let mut text = Text::new();
     text.push(b"WATCH ");
-    push_head(&mut text, symbols, address);
+    push_head(&mut text, legend, address);
     put_all(sink, Chan::Report, text.as_slice())
 }
 
@@ -98,7 +98,7 @@ fn write_values<K: Sink>(
 /// Writes the line of watched bytes that a step changed: where they begin, and the bytes before and behind it. The cells are turned around.
 #[tactic(auto, unfolding(crate::specs::Stops::change_line))]
 pub fn write_change<K: Sink>(
-    symbols: &[Symbol],
+    legend: &Legend,
     address: u32,
     before: &mut [Option<u8>],
     after: &mut [Option<u8>],
@@ -107,11 +107,11 @@ pub fn write_change<K: Sink>(
     requires before { length before.old ≤ 255 }
     requires after { length after.old ≤ 255 }
     ensures ok { OnOk result (Grew (K.contents sink.old) (K.contents sink.new)
-        (only Chan.Report (change_line symbols.now address before.old after.old))) }
+        (only Chan.Report (change_line legend.now address before.old after.old))) }
     ensures prefix { OnErr result (GrewByPrefix (K.contents sink.old) (K.contents sink.new)
-        (only Chan.Report (change_line symbols.now address before.old after.old))) }
+        (only Chan.Report (change_line legend.now address before.old after.old))) }
     ensures counts { CountsFailure (is_err result) (K.faults sink.old) (K.faults sink.new) }
 {
-    write_head(symbols, address, sink)?;
+    write_head(legend, address, sink)?;
     write_values(before, after, sink)
 }

@@ -51,6 +51,7 @@ line_then a b c p q = record {
 pub failed_then : (e : SessionEnd) (a b c : Faults) → NoneFailed a b → Failed e b c → Failed e a c
 failed_then end.Quit a b c p q = none_then a b c p q
 failed_then end.Save a b c p q = none_then a b c p q
+failed_then end.Restart a b c p q = none_then a b c p q
 failed_then end.Read a b c p q = none_then a b c p q
 failed_then end.Lines a b c p q = none_then a b c p q
 failed_then end.Turns a b c p q = none_then a b c p q
@@ -90,6 +91,7 @@ same_below m n e = omega (arith, e)
 pub file_later : (e : SessionEnd) (a b : Faults) → Failed e a b → a.file.count ≤ b.file.count
 file_later end.Quit a b p = same_below _ _ p.file
 file_later end.Save a b p = same_below _ _ p.file
+file_later end.Restart a b p = same_below _ _ p.file
 file_later end.Read a b p = same_below _ _ p.file
 file_later end.Lines a b p = same_below _ _ p.file
 file_later end.Turns a b p = same_below _ _ p.file
@@ -100,6 +102,7 @@ file_later end.LineFault a b p = same_below _ _ p.file
 pub sink_later : (e : SessionEnd) (a b : Faults) → Failed e a b → a.sink.count ≤ b.sink.count
 sink_later end.Quit a b p = same_below _ _ p.sink
 sink_later end.Save a b p = same_below _ _ p.sink
+sink_later end.Restart a b p = same_below _ _ p.sink
 sink_later end.Read a b p = same_below _ _ p.sink
 sink_later end.Lines a b p = same_below _ _ p.sink
 sink_later end.Turns a b p = same_below _ _ p.sink
@@ -110,6 +113,7 @@ sink_later end.LineFault a b p = same_below _ _ p.sink
 pub lines_later : (e : SessionEnd) (a b : Faults) → Failed e a b → a.lines.count ≤ b.lines.count
 lines_later end.Quit a b p = same_below _ _ p.lines
 lines_later end.Save a b p = same_below _ _ p.lines
+lines_later end.Restart a b p = same_below _ _ p.lines
 lines_later end.Read a b p = same_below _ _ p.lines
 lines_later end.Lines a b p = same_below _ _ p.lines
 lines_later end.Turns a b p = same_below _ _ p.lines
@@ -129,6 +133,7 @@ lines_cause e a b p is = (subst (λ (z : SessionEnd). Failed z a b) is p).cause
 pub file_still : (e : SessionEnd) (a b : Faults) → Failed e a b → e ≢ end.PageFault → e ≢ end.WriteFault → b.file.count ≡ a.file.count
 file_still end.Quit a b p n m = p.file
 file_still end.Save a b p n m = p.file
+file_still end.Restart a b p n m = p.file
 file_still end.Read a b p n m = p.file
 file_still end.Lines a b p n m = p.file
 file_still end.Turns a b p n m = p.file
@@ -139,6 +144,7 @@ file_still end.LineFault a b p n m = p.file
 pub sink_still : (e : SessionEnd) (a b : Faults) → Failed e a b → e ≢ end.WriteFault → b.sink.count ≡ a.sink.count
 sink_still end.Quit a b p n = p.sink
 sink_still end.Save a b p n = p.sink
+sink_still end.Restart a b p n = p.sink
 sink_still end.Read a b p n = p.sink
 sink_still end.Lines a b p n = p.sink
 sink_still end.Turns a b p n = p.sink
@@ -149,6 +155,7 @@ sink_still end.LineFault a b p n = p.sink
 pub lines_still : (e : SessionEnd) (a b : Faults) → Failed e a b → e ≢ end.LineFault → b.lines.count ≡ a.lines.count
 lines_still end.Quit a b p n = p.lines
 lines_still end.Save a b p n = p.lines
+lines_still end.Restart a b p n = p.lines
 lines_still end.Read a b p n = p.lines
 lines_still end.Lines a b p n = p.lines
 lines_still end.Turns a b p n = p.lines
@@ -162,6 +169,7 @@ once_same a b e = λ n. absurd (n e)
 pub file_once : (e : SessionEnd) (a b : Faults) → Failed e a b → ChangesOnce a.file b.file
 file_once end.Quit a b p = once_same a.file b.file p.file
 file_once end.Save a b p = once_same a.file b.file p.file
+file_once end.Restart a b p = once_same a.file b.file p.file
 file_once end.Read a b p = once_same a.file b.file p.file
 file_once end.Lines a b p = once_same a.file b.file p.file
 file_once end.Turns a b p = once_same a.file b.file p.file

@@ -81,6 +81,7 @@ takes_none a = record { whole = []; next = same_mapped a; cuts = refl }
 pub took_on : (e : SessionEnd) (a b c : Option (List (List ℕ))) (xs ys : List (List ℕ)) → Takes a b xs → Took e b c ys → Took e a c (xs ++ ys)
 took_on end.Quit a b c xs ys p q = takes_on a b c xs ys p q
 took_on end.Save a b c xs ys p q = takes_on a b c xs ys p q
+took_on end.Restart a b c xs ys p q = takes_on a b c xs ys p q
 took_on end.Read a b c xs ys p q = (takes_on a b c xs ys p q.0, q.1)
 took_on end.Lines a b c xs ys p q = takes_on a b c xs ys p q
 took_on end.Turns a b c xs ys p q = takes_on a b c xs ys p q
@@ -91,7 +92,7 @@ took_on end.LineFault a b c xs ys p q = (q.0, takes_on a b q.0 xs ys p q.1)
 pub going_on : (xs ys : List Exchange) → GoesOn xs → GoesOn ys → GoesOn (xs ++ ys)
 going_on xs ys p q = list_any-append asks_end xs ys ∙ (ap (λ (z : Bool). z || list_any asks_end ys) p ∙ q)
 
-last_on : (e : SessionEnd) (xs ys : List Exchange) → GoesOn xs → IsAskedAtLast e ys → IsAskedAtLast e (xs ++ ys)
+pub last_on : (e : SessionEnd) (xs ys : List Exchange) → GoesOn xs → IsAskedAtLast e ys → IsAskedAtLast e (xs ++ ys)
 last_on e xs ys p q = record {
   front = xs ++ q.front;
   last = q.last;
@@ -119,6 +120,7 @@ unprompted_on g h xs ys o replies v p = at_both (λ z told. IsToldInPart o z.ses
 pub ends_on : (e : SessionEnd) (g : Terms) (h : Held) (xs ys : List Exchange) (o : Origin) (replies : List ℕ) (v : Scene) → Ends e g (held_after g h xs) ys o (replies ++ transcript g h xs) v → Ends e g h (xs ++ ys) o replies v
 ends_on end.Quit g h xs ys o replies v p = held_on g h xs ys [] o replies v p
 ends_on end.Save g h xs ys o replies v p = held_on g h xs ys [] o replies v p
+ends_on end.Restart g h xs ys o replies v p = held_on g h xs ys [] o replies v p
 ends_on end.Read g h xs ys o replies v p = held_on g h xs ys (prompt g.prompts) o replies v p
 ends_on end.Lines g h xs ys o replies v p = held_on g h xs ys [] o replies v p
 ends_on end.Turns g h xs ys o replies v p = cut_on failure.Turns g h xs ys o replies v p
@@ -132,6 +134,7 @@ ends_on end.LineFault g h xs ys o replies v p = held_on g h xs ys (prompt g.prom
 pub asked_on : (e : SessionEnd) (xs ys : List Exchange) → (e ≡ end.Lines → ⊥) → GoesOn xs → Asked e ys → Asked e (xs ++ ys)
 asked_on end.Quit xs ys few p q = last_on end.Quit xs ys p q
 asked_on end.Save xs ys few p q = last_on end.Save xs ys p q
+asked_on end.Restart xs ys few p q = last_on end.Restart xs ys p q
 asked_on end.Read xs ys few p q = going_on xs ys p q
 asked_on end.Lines xs ys few p q = absurd (few refl)
 asked_on end.Turns xs ys few p q = going_on xs ys p q

@@ -13,7 +13,7 @@ use Rattle.vax_debug_acts.specs.Sessions.{IsHere, Origin}
 use Rattle.vax_debug_acts.specs.Failure.{Failure}
 use Rattle.vax_debug_acts.specs.Plan.{Plan}
 use Rattle.vax_debug_acts.specs.Failure.TheVariants as failure
-use Rattle.vax_debug_names.specs.declared.Symbol.{Symbol}
+use Rattle.vax_debug_names.specs.declared.Legend.{Legend}
 use Rattle.vax_debug_words.specs.Requests.{line_of}
 use Rattle.vax_debug_words.specs.declared.request.Line.{Line}
 use Rattle.vax_debug_words.specs.declared.request.Line.TheVariants.{Blank, Request as Asks, Refused}
@@ -24,8 +24,8 @@ use Rattle.vax_debug_acts.specs.Acts.{only_told}
 use Rattle.vax_debug_acts.proofs.Telling.{at_told, done, in_part}
 use Rattle.vax_debug_session.specs.Exchanges.{Exchange}
 use Rattle.vax_debug_session.specs.Faults.{Failed, Faults}
-use Rattle.vax_debug_session.specs.Requests.{Held, answered, held}
-use Rattle.vax_debug_session.specs.Holding.{Holds, IsAskedAtLast, Terms, act_of, after_line, breaks_behind, carried_out, end_asked, end_by, held_after, prompt, stage, transcript}
+use Rattle.vax_debug_session.specs.Requests.{Held, answered, breaks_after, held}
+use Rattle.vax_debug_session.specs.Holding.{Holds, IsAskedAtLast, Restarts, Terms, act_of, after_line, breaks_behind, carried_out, end_asked, end_by, held_after, prompt, stage, transcript}
 use Rattle.vax_debug_session.specs.Turns.{Answers, CarriesOut, Closes, CutsShort, HoldsOn, IsHolding, end_of}
 use Rattle.vax_debug_session.specs.declared.SessionEnd.{SessionEnd}
 use Rattle.vax_debug_session.specs.declared.SessionEnd.TheVariants as end
@@ -55,26 +55,26 @@ prompted o s replies text m f a b grew h = record { at = at_told o s replies tex
 -- a line was carried out, or cut short
 
 pub carries : (g : Terms) (b new : Plan) (line : Exchange) (said : Line) (v w : Scene) (x : Unit {0}) → said ≡ line_of line.line → end_asked said ≡ None →
-    ActsFrom v w (Ok x) g.limits (carried_out g.limits.steps g.symbols b line said) → BreaksFrom v (Ok x) new (breaks_behind g.symbols b said) → Answers None g b new line v w
+    ActsFrom v w (Ok x) g.limits (carried_out g.limits.steps g.legend b line said) → BreaksFrom v (Ok x) new (breaks_behind g.legend b said) → Answers None g b new line v w
 carries g b new line said v w x is going acts breaks = record {
   going = subst (λ (z : Line). end_asked z ≡ None) is going;
   here = λ o s replies h.
-      subst (λ (z : Line). IsHere o (carried_out g.limits.steps g.symbols b line z s).session (replies ++ (carried_out g.limits.steps g.symbols b line z s).reply) w) is
+      subst (λ (z : Line). IsHere o (carried_out g.limits.steps g.legend b line z s).session (replies ++ (carried_out g.limits.steps g.legend b line z s).reply) w) is
       (acts o s replies h);
-  stops = λ o s replies h. subst (λ (z : Line). new ≡ breaks_behind g.symbols b z s) is (breaks o s replies h);
+  stops = λ o s replies h. subst (λ (z : Line). new ≡ breaks_behind g.legend b z s) is (breaks o s replies h);
 }
 
 cuts_short : (e : Failure) (g : Terms) (b : Plan) (line : Exchange) (said : Line) (v w : Scene) → said ≡ line_of line.line → end_asked said ≡ None →
-    ActsFrom v w (Err e) g.limits (carried_out g.limits.steps g.symbols b line said) → CutsShort e g b line v w
+    ActsFrom v w (Err e) g.limits (carried_out g.limits.steps g.legend b line said) → CutsShort e g b line v w
 cuts_short e g b line said v w is going acts = record {
   going = subst (λ (z : Line). end_asked z ≡ None) is going;
   acts = λ o s replies h.
-      subst (λ (z : Line). Acts (Err e) g.limits.turns (carried_out g.limits.steps g.symbols b line z s) o s replies w) is
+      subst (λ (z : Line). Acts (Err e) g.limits.turns (carried_out g.limits.steps g.legend b line z s) o s replies w) is
       (acts o s replies h);
 }
 
 pub cuts : (e : Failure) (g : Terms) (b new : Plan) (line : Exchange) (said : Line) (v w : Scene) → said ≡ line_of line.line → end_asked said ≡ None →
-    ActsFrom v w (Err e) g.limits (carried_out g.limits.steps g.symbols b line said) → Answers (Some (end_of e)) g b new line v w
+    ActsFrom v w (Err e) g.limits (carried_out g.limits.steps g.legend b line said) → Answers (Some (end_of e)) g b new line v w
 cuts failure.Turns g b new line said v w is going acts = cuts_short failure.Turns g b line said v w is going acts
 cuts failure.PageFault g b new line said v w is going acts = cuts_short failure.PageFault g b line said v w is going acts
 cuts failure.WriteFault g b new line said v w is going acts = cuts_short failure.WriteFault g b line said v w is going acts
@@ -84,43 +84,56 @@ cuts failure.WriteFault g b new line said v w is going acts = cuts_short failure
 closed : (e : SessionEnd) (line : Exchange) (said : Line) (v : Scene) → said ≡ line_of line.line → end_asked said ≡ Some e → Closes e line v v
 closed e line said v is asks = record { asks = subst (λ (z : Line). end_asked z ≡ Some e) is asks; same = refl }
 
--- by other than these two no line asks for an end
-two_ends : (said : Line) (e : SessionEnd) → (e ≡ end.Quit → ⊥) → (e ≡ end.Save → ⊥) → end_asked said ≡ Some e → ⊥
-two_ends Blank e n k is = cc is
-two_ends (Asks request.Quit) e n k is = n (cc is)
-two_ends (Asks request.Save) e n k is = k (cc is)
-two_ends (Asks r) e n k is = cc is
-two_ends (Refused why) e n k is = cc is
+-- by other than these three no line asks for an end
+three_ends : (said : Line) (e : SessionEnd) → (e ≡ end.Quit → ⊥) → (e ≡ end.Save → ⊥) → (e ≡ end.Restart → ⊥) → end_asked said ≡ Some e → ⊥
+three_ends Blank e n k j is = cc is
+three_ends (Asks request.Quit) e n k j is = n (cc is)
+three_ends (Asks request.Save) e n k j is = k (cc is)
+three_ends (Asks request.Restart) e n k j is = j (cc is)
+three_ends (Asks r) e n k j is = cc is
+three_ends (Refused why) e n k j is = cc is
 
-pub asks_end_by : (e : SessionEnd) (g : Terms) (b new : Plan) (line : Exchange) (said : Line) (v : Scene) → said ≡ line_of line.line → end_asked said ≡ Some e → Answers (Some e) g b new line v v
-asks_end_by end.Quit g b new line said v is asks = closed end.Quit line said v is asks
-asks_end_by end.Save g b new line said v is asks = closed end.Save line said v is asks
-asks_end_by end.Read g b new line said v is asks = absurd (two_ends said end.Read (λ n. cc n) (λ n. cc n) asks)
-asks_end_by end.Lines g b new line said v is asks = absurd (two_ends said end.Lines (λ n. cc n) (λ n. cc n) asks)
-asks_end_by end.Turns g b new line said v is asks = absurd (two_ends said end.Turns (λ n. cc n) (λ n. cc n) asks)
-asks_end_by end.PageFault g b new line said v is asks = absurd (two_ends said end.PageFault (λ n. cc n) (λ n. cc n) asks)
-asks_end_by end.WriteFault g b new line said v is asks = absurd (two_ends said end.WriteFault (λ n. cc n) (λ n. cc n) asks)
-asks_end_by end.LineFault g b new line said v is asks = absurd (two_ends said end.LineFault (λ n. cc n) (λ n. cc n) asks)
+pub asks_end_by : (e : SessionEnd) (g : Terms) (b : Plan) (line : Exchange) (said : Line) (v : Scene) → said ≡ line_of line.line → end_asked said ≡ Some e → Answers (Some e) g b b line v v
+asks_end_by end.Quit g b line said v is asks = closed end.Quit line said v is asks
+asks_end_by end.Save g b line said v is asks = closed end.Save line said v is asks
+asks_end_by end.Restart g b line said v is asks = (closed end.Restart line said v is asks, refl)
+asks_end_by end.Read g b line said v is asks = absurd (three_ends said end.Read (λ n. cc n) (λ n. cc n) (λ n. cc n) asks)
+asks_end_by end.Lines g b line said v is asks = absurd (three_ends said end.Lines (λ n. cc n) (λ n. cc n) (λ n. cc n) asks)
+asks_end_by end.Turns g b line said v is asks = absurd (three_ends said end.Turns (λ n. cc n) (λ n. cc n) (λ n. cc n) asks)
+asks_end_by end.PageFault g b line said v is asks = absurd (three_ends said end.PageFault (λ n. cc n) (λ n. cc n) (λ n. cc n) asks)
+asks_end_by end.WriteFault g b line said v is asks = absurd (three_ends said end.WriteFault (λ n. cc n) (λ n. cc n) (λ n. cc n) asks)
+asks_end_by end.LineFault g b line said v is asks = absurd (three_ends said end.LineFault (λ n. cc n) (λ n. cc n) (λ n. cc n) asks)
 
 -- no call fails
 pub end_unfailed : (e : SessionEnd) (said : Line) (a : Faults) → end_asked said ≡ Some e → Failed e a a
 end_unfailed end.Quit said a asks = none_failed a
 end_unfailed end.Save said a asks = none_failed a
+end_unfailed end.Restart said a asks = none_failed a
 end_unfailed end.Read said a asks = none_failed a
 end_unfailed end.Lines said a asks = none_failed a
 end_unfailed end.Turns said a asks = none_failed a
-end_unfailed end.PageFault said a asks = absurd (two_ends said end.PageFault (λ n. cc n) (λ n. cc n) asks)
-end_unfailed end.WriteFault said a asks = absurd (two_ends said end.WriteFault (λ n. cc n) (λ n. cc n) asks)
-end_unfailed end.LineFault said a asks = absurd (two_ends said end.LineFault (λ n. cc n) (λ n. cc n) asks)
+end_unfailed end.PageFault said a asks = absurd (three_ends said end.PageFault (λ n. cc n) (λ n. cc n) (λ n. cc n) asks)
+end_unfailed end.WriteFault said a asks = absurd (three_ends said end.WriteFault (λ n. cc n) (λ n. cc n) (λ n. cc n) asks)
+end_unfailed end.LineFault said a asks = absurd (three_ends said end.LineFault (λ n. cc n) (λ n. cc n) (λ n. cc n) asks)
 
 -- and nothing is done
-end_act : (limit : ℕ) (symbols : List Symbol) (breaks : Plan) (x : Exchange) (l : Line) (s : Session) (e : SessionEnd) → end_asked l ≡ Some e → carried_out limit symbols breaks x l s ≡ only_told s []
+end_act : (limit : ℕ) (legend : Legend) (breaks : Plan) (x : Exchange) (l : Line) (s : Session) (e : SessionEnd) → end_asked l ≡ Some e → carried_out limit legend breaks x l s ≡ only_told s []
 unfolding answered
-end_act limit symbols breaks x Blank s e is = absurd (cc is)
-end_act limit symbols breaks x (Asks request.Quit) s e is = refl
-end_act limit symbols breaks x (Asks request.Save) s e is = refl
-end_act limit symbols breaks x (Asks r) s e is = absurd (cc is)
-end_act limit symbols breaks x (Refused why) s e is = absurd (cc is)
+end_act limit legend breaks x Blank s e is = absurd (cc is)
+end_act limit legend breaks x (Asks request.Quit) s e is = refl
+end_act limit legend breaks x (Asks request.Save) s e is = refl
+end_act limit legend breaks x (Asks request.Restart) s e is = refl
+end_act limit legend breaks x (Asks r) s e is = absurd (cc is)
+end_act limit legend breaks x (Refused why) s e is = absurd (cc is)
+
+end_breaks : (legend : Legend) (breaks : Plan) (l : Line) (s : Session) (e : SessionEnd) → end_asked l ≡ Some e → breaks_behind legend breaks l s ≡ breaks
+unfolding breaks_after
+end_breaks legend breaks Blank s e is = refl
+end_breaks legend breaks (Asks request.Quit) s e is = refl
+end_breaks legend breaks (Asks request.Save) s e is = refl
+end_breaks legend breaks (Asks request.Restart) s e is = refl
+end_breaks legend breaks (Asks r) s e is = absurd (cc is)
+end_breaks legend breaks (Refused why) s e is = refl
 
 -- one line of a session
 
@@ -145,7 +158,7 @@ line_carried g b new line u v w c d behind took q = record {
 end_here : (e : SessionEnd) (g : Terms) (b : Plan) (line : Exchange) (o : Origin) (s : Session) (replies : List ℕ) (v : Scene) → end_by line ≡ Some e → IsHere o s (replies ++ prompt g.prompts) v →
     IsHere o (held_after g (held s b) (line ∷ [])).session ((replies ++ transcript g (held s b) (line ∷ [])) ++ []) v
 end_here e g b line o s replies v asks h =
-    let act : act_of g (held s b) line ≡ only_told s [] = end_act g.limits.steps g.symbols b line (line_of line.line) s e asks in
+    let act : act_of g (held s b) line ≡ only_told s [] = end_act g.limits.steps g.legend b line (line_of line.line) s e asks in
     let there : (after_line g (held s b) line).session ≡ s = ap (λ (z : Act). z.session) act in
     let told : replies ++ prompt g.prompts ≡ (replies ++ transcript g (held s b) (line ∷ [])) ++ [] =
     sym (append-nil (replies ++ prompt g.prompts))
@@ -180,6 +193,20 @@ line_saves g b line u v w c d behind took q = record {
   goes = closed_here end.Save g b line u v w c d behind took q;
 }
 
+-- steps stop behind a line that asks for an end where they did before it
+end_stops : (e : SessionEnd) (g : Terms) (b : Plan) (line : Exchange) (s : Session) → end_by line ≡ Some e → b ≡ (held_after g (held s b) (line ∷ [])).breaks
+end_stops e g b line s asks =
+    sym (end_breaks g.legend b (line_of line.line) s e asks) ∙ ap (λ (z : Held). z.breaks) (one_after g (held s b) line)
+
+line_restarts : (g : Terms) (b new : Plan) (line : Exchange) (u v w : Scene) (c d : Option (List (List ℕ))) → Prompts g u v → Takes c d (line.line ∷ []) → Closes end.Restart line v w → new ≡ b → Restarts g b new (stage u w c d)
+line_restarts g b new line u v w c d behind took q same = record {
+  lines = line ∷ [];
+  took = took;
+  asked = asked_last end.Restart g b line u v w c d behind took q;
+  goes = closed_here end.Restart g b line u v w c d behind took q;
+  stops = λ o s replies h. same ∙ end_stops end.Restart g b line s q.asks;
+}
+
 -- where nothing was carried out, what is told behind no line is told
 told_first : (P : Held → List ℕ → Type 0) (g : Terms) (h : Held) (replies : List ℕ) → P h replies → P (held_after g h []) (replies ++ transcript g h [])
 told_first P g h replies p =
@@ -196,6 +223,7 @@ pub line_holds : (r : Option SessionEnd) (g : Terms) (b new : Plan) (line : Exch
 line_holds None g b new line u v w c d behind took q = line_carried g b new line u v w c d behind took q
 line_holds (Some end.Quit) g b new line u v w c d behind took q = line_quits g b line u v w c d behind took q
 line_holds (Some end.Save) g b new line u v w c d behind took q = line_saves g b line u v w c d behind took q
+line_holds (Some end.Restart) g b new line u v w c d behind took q = line_restarts g b new line u v w c d behind took q.0 q.1
 line_holds (Some end.Read) g b new line u v w c d behind took q = absurd q
 line_holds (Some end.Lines) g b new line u v w c d behind took q = absurd q
 line_holds (Some end.Turns) g b new line u v w c d behind took q = record {

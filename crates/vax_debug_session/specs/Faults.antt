@@ -45,6 +45,7 @@ pub record LineFailed (before now : Faults) : Type 0 where
 abbrev pub Failed : SessionEnd → Faults → Faults → Type 0
 Failed end.Quit before now = NoneFailed before now
 Failed end.Save before now = NoneFailed before now
+Failed end.Restart before now = NoneFailed before now
 Failed end.Read before now = NoneFailed before now
 Failed end.Lines before now = NoneFailed before now
 Failed end.Turns before now = NoneFailed before now

@@ -13,7 +13,7 @@ use Rattle.vax_debug_words.specs.Requests.{line_of}
 use Rattle.vax_debug_words.specs.declared.request.Line.{Line}
 use Rattle.vax_debug_words.specs.declared.request.Line.TheVariants.{Blank, Request as Asks, Refused}
 use Rattle.vax_debug_words.specs.declared.request.Request.TheVariants as request
-use Rattle.vax_debug_names.specs.declared.Symbol.{Symbol}
+use Rattle.vax_debug_names.specs.declared.Legend.{Legend}
 use Rattle.vax_debug_replies.specs.Help.{refused}
 use Rattle.vax_debug_acts.specs.Acting.{Act, Acts, IsToldInPart}
 use Rattle.vax_debug_acts.specs.Acts.{only_told}
@@ -22,14 +22,14 @@ use Rattle.vax_debug_session.specs.Requests.{Held, answered, breaks_after, held}
 use Rattle.vax_debug_session.specs.declared.SessionEnd.{SessionEnd}
 use Rattle.vax_debug_session.specs.declared.SessionEnd.TheVariants as end
 
--- what a session is held under: its limits, the symbols of its program, and whether a prompt is written
+-- what a session is held under: its limits, what its program is told by, and whether a prompt is written
 pub record Terms : Type 0 where
   pub limits : Limits
-  pub symbols : List Symbol
+  pub legend : Legend
   pub prompts : Bool
 
-abbrev pub terms : Limits → List Symbol → Bool → Terms
-terms limits symbols prompts = record { limits = limits; symbols = symbols; prompts = prompts }
+abbrev pub terms : Limits → Legend → Bool → Terms
+terms limits legend prompts = record { limits = limits; legend = legend; prompts = prompts }
 
 -- the fold
 
@@ -38,18 +38,18 @@ abbrev pub prompt : Bool → List ℕ
 prompt prompts = if prompts then codes "vax> " else []
 
 -- what a line comes to: a blank one to nothing, and one that isn't understood to what may have been meant
-abbrev pub carried_out : (limit : ℕ) → List Symbol → Plan → Exchange → Line → Session → Act
-carried_out limit symbols breaks x Blank s = only_told s []
-carried_out limit symbols breaks x (Asks r) s = answered limit symbols breaks x.pages r s
-carried_out limit symbols breaks x (Refused why) s = only_told s (refused why x.line)
+abbrev pub carried_out : (limit : ℕ) → Legend → Plan → Exchange → Line → Session → Act
+carried_out limit legend breaks x Blank s = only_told s []
+carried_out limit legend breaks x (Asks r) s = answered limit legend breaks x.pages r s
+carried_out limit legend breaks x (Refused why) s = only_told s (refused why x.line)
 
-abbrev pub breaks_behind : List Symbol → Plan → Line → Session → Plan
-breaks_behind symbols breaks Blank s = breaks
-breaks_behind symbols breaks (Asks r) s = breaks_after symbols breaks r s
-breaks_behind symbols breaks (Refused why) s = breaks
+abbrev pub breaks_behind : Legend → Plan → Line → Session → Plan
+breaks_behind legend breaks Blank s = breaks
+breaks_behind legend breaks (Asks r) s = breaks_after legend breaks r s
+breaks_behind legend breaks (Refused why) s = breaks
 
 abbrev pub act_of : Terms → Held → Exchange → Act
-act_of g h x = carried_out g.limits.steps g.symbols h.breaks x (line_of x.line) h.session
+act_of g h x = carried_out g.limits.steps g.legend h.breaks x (line_of x.line) h.session
 
 -- the reply to a line
 abbrev pub replied : Terms → Held → Exchange → List ℕ
@@ -57,7 +57,7 @@ replied g h x = (act_of g h x).reply
 
 -- and where it leaves the session
 abbrev pub after_line : Terms → Held → Exchange → Held
-after_line g h x = held (act_of g h x).session (breaks_behind g.symbols h.breaks (line_of x.line) h.session)
+after_line g h x = held (act_of g h x).session (breaks_behind g.legend h.breaks (line_of x.line) h.session)
 
 -- the replies to lines, in order, each behind its prompt
 unfoldable pub transcript : Terms → Held → List Exchange → List ℕ
@@ -75,6 +75,7 @@ held_after g h (x ∷ xs) = held_after g (after_line g h x) xs
 abbrev pub end_asked : Line → Option SessionEnd
 end_asked (Asks request.Quit) = Some end.Quit
 end_asked (Asks request.Save) = Some end.Save
+end_asked (Asks request.Restart) = Some end.Restart
 end_asked l = None
 
 abbrev pub end_by : Exchange → Option SessionEnd
@@ -99,6 +100,7 @@ pub record IsAskedAtLast (e : SessionEnd) (lines : List Exchange) : Type 0 where
 abbrev pub Asked : SessionEnd → List Exchange → Type 0
 Asked end.Quit lines = IsAskedAtLast end.Quit lines
 Asked end.Save lines = IsAskedAtLast end.Save lines
+Asked end.Restart lines = IsAskedAtLast end.Restart lines
 Asked end.Read lines = GoesOn lines
 Asked end.Lines lines = GoesOn lines × (length lines ≡ 2 ^ 64 - 1)
 Asked end.Turns lines = GoesOn lines
@@ -110,6 +112,7 @@ Asked end.LineFault lines = GoesOn lines
 abbrev pub Took : SessionEnd → (before now : Option (List (List ℕ))) → List (List ℕ) → Type 0
 Took end.Quit before now lines = Takes before now lines
 Took end.Save before now lines = Takes before now lines
+Took end.Restart before now lines = Takes before now lines
 Took end.Read before now lines = Takes before now lines × IsAtEnd now now
 Took end.Lines before now lines = Takes before now lines
 Took end.Turns before now lines = Takes before now lines
@@ -137,6 +140,7 @@ IsUnprompted g h lines o replies v = IsToldInPart o (held_after g h lines).sessi
 abbrev pub Ends : SessionEnd → Terms → Held → List Exchange → Origin → (replies : List ℕ) → Scene → Type 0
 Ends end.Quit g h lines o replies v = IsHeld g h lines [] o replies v
 Ends end.Save g h lines o replies v = IsHeld g h lines [] o replies v
+Ends end.Restart g h lines o replies v = IsHeld g h lines [] o replies v
 Ends end.Read g h lines o replies v = IsHeld g h lines (prompt g.prompts) o replies v
 Ends end.Lines g h lines o replies v = IsHeld g h lines [] o replies v
 Ends end.Turns g h lines o replies v = IsCutShort failure.Turns g h lines o replies v
@@ -160,3 +164,12 @@ pub record Holds (g : Terms) (breaks : Plan) (e : SessionEnd) (v : Stage) : Type
   pub took : Took e v.coming v.left (lines_of lines)
   pub asked : Asked e lines
   pub goes : (o : Origin) (s : Session) (replies : List ℕ) → IsHere o s replies v.before → Ends e g (held s breaks) lines o replies v.after
+
+-- Lines were taken, and the last of them, and it alone, asks for the program at its start. The session is where they led it, and so are the addresses at which
+-- steps stop and what is watched.
+pub record Restarts (g : Terms) (breaks new : Plan) (v : Stage) : Type 0 where
+  pub lines : List Exchange
+  pub took : Takes v.coming v.left (lines_of lines)
+  pub asked : IsAskedAtLast end.Restart lines
+  pub goes : (o : Origin) (s : Session) (replies : List ℕ) → IsHere o s replies v.before → IsHeld g (held s breaks) lines [] o replies v.after
+  pub stops : (o : Origin) (s : Session) (replies : List ℕ) → IsHere o s replies v.before → new ≡ (held_after g (held s breaks) lines).breaks

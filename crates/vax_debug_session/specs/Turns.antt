@@ -10,7 +10,7 @@ use Rattle.vax_debug_acts.specs.Failure.TheVariants as failure
 use Rattle.vax_debug_acts.specs.Acting.{Acts}
 use Rattle.vax_debug_session.specs.Exchanges.{Exchange, lines_of}
 use Rattle.vax_debug_session.specs.Requests.{held}
-use Rattle.vax_debug_session.specs.Holding.{GoesOn, Holds, Stage, Terms, act_of, after_line, end_by, held_after, transcript}
+use Rattle.vax_debug_session.specs.Holding.{GoesOn, Holds, Restarts, Stage, Terms, act_of, after_line, end_by, held_after, transcript}
 use Rattle.vax_debug_session.specs.declared.SessionEnd.{SessionEnd}
 use Rattle.vax_debug_session.specs.declared.SessionEnd.TheVariants as end
 
@@ -42,6 +42,7 @@ abbrev pub Answers : Option SessionEnd → Terms → (breaks new : Plan) → Exc
 Answers None g breaks new line before after = CarriesOut g breaks new line before after
 Answers (Some end.Quit) g breaks new line before after = Closes end.Quit line before after
 Answers (Some end.Save) g breaks new line before after = Closes end.Save line before after
+Answers (Some end.Restart) g breaks new line before after = Closes end.Restart line before after × (new ≡ breaks)
 Answers (Some end.Read) g breaks new line before after = ⊥
 Answers (Some end.Lines) g breaks new line before after = ⊥
 Answers (Some end.Turns) g breaks new line before after = CutsShort failure.Turns g breaks line before after
@@ -64,6 +65,7 @@ abbrev pub HoldsOn : Option SessionEnd → Terms → (breaks new : Plan) → Sta
 HoldsOn None g breaks new v = IsHolding g breaks new 1 v
 HoldsOn (Some end.Quit) g breaks new v = Holds g breaks end.Quit v
 HoldsOn (Some end.Save) g breaks new v = Holds g breaks end.Save v
+HoldsOn (Some end.Restart) g breaks new v = Restarts g breaks new v
 HoldsOn (Some end.Read) g breaks new v = Holds g breaks end.Read v
 HoldsOn (Some end.Lines) g breaks new v = ⊥
 HoldsOn (Some end.Turns) g breaks new v = Holds g breaks end.Turns v

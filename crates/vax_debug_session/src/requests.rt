@@ -15,10 +15,10 @@ use vax_debug_acts::{
     deposit_into_register, deposit_into_status, evict_all, evict_at, go, leave, over, step,
     stop_at, turn, until, watch,
 };
-use vax_debug_names::Symbol;
+use vax_debug_names::Legend;
 use vax_debug_views::{
-    disassemble, disassemble_here, show_breaks, show_frames, show_help, show_memory, show_pages,
-    show_queue, show_register, show_stack, show_status, show_watches,
+    disassemble, disassemble_here, show_breaks, show_field, show_frames, show_help, show_memory,
+    show_pages, show_queue, show_register, show_stack, show_status, show_watches,
 };
 use vax_debug_words::{Expression, Request, Span};
 use vax_machine::Machine;
@@ -27,7 +27,7 @@ use vax_outside::{PageFile, Sink};
 /// Shows the instructions of a span, or from PC on.
 fn disassemble_at<F: PageFile, K: Sink>(
     span: &Option<Span>,
-    symbols: &[Symbol],
+    legend: &Legend,
     machine: &mut Machine,
     file: &mut F,
     sink: &mut K,
@@ -36,13 +36,13 @@ fn disassemble_at<F: PageFile, K: Sink>(
     ensures shows { Shows
         (scene (engine machine.old) (F.contents file.old) (K.contents sink.old))
         (scene (engine machine.new) (F.contents file.new) (K.contents sink.new))
-        result (disassembled_at symbols.now span.now) }
+        result (disassembled_at legend.now span.now) }
     ensures counts { Counts result (F.faults file.old) (F.faults file.new) (K.faults sink.old)
         (K.faults sink.new) }
 {
     match span {
-        Some(span) => disassemble(span, symbols, machine, file, sink),
-        None => disassemble_here(symbols, machine, file, sink),
+        Some(span) => disassemble(span, legend, machine, file, sink),
+        None => disassemble_here(legend, machine, file, sink),
     }
 }
 
@@ -50,7 +50,7 @@ fn disassemble_at<F: PageFile, K: Sink>(
 #[tactic(auto, unfolding(vax_debug_words::specs::Requests::IsProper))]
 fn show<F: PageFile, K: Sink>(
     request: &Request,
-    symbols: &[Symbol],
+    legend: &Legend,
     breaks: &Plan,
     machine: &mut Machine,
     file: &mut F,
@@ -60,24 +60,25 @@ fn show<F: PageFile, K: Sink>(
     ensures shows { Shows
         (scene (engine machine.old) (F.contents file.old) (K.contents sink.old))
         (scene (engine machine.new) (F.contents file.new) (K.contents sink.new))
-        result (shown symbols.now breaks.now (pages_at (engine machine.old)) request.now) }
+        result (shown legend.now breaks.now (pages_at (engine machine.old)) request.now) }
     ensures counts { Counts result (F.faults file.old) (F.faults file.new) (K.faults sink.old)
         (K.faults sink.new) }
 {
     match request {
         Request::ExamineRegister(register) => show_register(*register, machine, file, sink),
         Request::ExamineStatus => show_status(machine, file, sink),
+        Request::ExamineField(field) => show_field(*field, machine, file, sink),
         Request::ExamineMemory(form, span) => {
-            show_memory(*form, span, symbols, machine, file, sink)
+            show_memory(*form, span, legend, machine, file, sink)
         }
-        Request::Disassemble(span) => disassemble_at(span, symbols, machine, file, sink),
-        Request::Show => show_breaks(symbols, &breaks.breaks, sink),
-        Request::ShowWatches => show_watches(symbols, &breaks.watches, sink),
-        Request::Where => show_frames(symbols, machine, file, sink),
-        Request::Stack(count) => show_stack(*count, symbols, machine, file, sink),
-        Request::Queue(head) => show_queue(head, symbols, machine, file, sink),
+        Request::Disassemble(span) => disassemble_at(span, legend, machine, file, sink),
+        Request::Show => show_breaks(legend, &breaks.breaks, sink),
+        Request::ShowWatches => show_watches(legend, &breaks.watches, sink),
+        Request::Where => show_frames(legend, machine, file, sink),
+        Request::Stack(count) => show_stack(*count, legend, machine, file, sink),
+        Request::Queue(head) => show_queue(head, legend, machine, file, sink),
         Request::Help(command) => show_help(*command, sink),
-        Request::Pages => show_pages(symbols, machine, sink),
+        Request::Pages => show_pages(legend, machine, sink),
         _ => Ok(()),
     }
 }
@@ -96,10 +97,10 @@ fn clear<F: PageFile, K: Sink>(
         (scene (engine machine.old) (F.contents file.old) (K.contents sink.old))
         (scene (engine machine.new) (F.contents file.new) (K.contents sink.new)) result
         setting.now.limits.now
-        (cleared_act setting.now.symbols.now at.now) }
+        (cleared_act setting.now.legend.now at.now) }
     ensures breaks { BreaksFrom
         (scene (engine machine.old) (F.contents file.old) (K.contents sink.old)) result breaks.new
-        (cleared setting.now.symbols.now breaks.old at.now) }
+        (cleared setting.now.legend.now breaks.old at.now) }
     ensures counts { Counts result (F.faults file.old) (F.faults file.new) (K.faults sink.old)
         (K.faults sink.new) }
     ensures only { OnlyReplied (K.contents sink.old) (K.contents sink.new) }
@@ -126,11 +127,11 @@ pub(crate) fn answer<F: PageFile, K: Sink>(
         (scene (engine machine.old) (F.contents file.old) (K.contents sink.old))
         (scene (engine machine.new) (F.contents file.new) (K.contents sink.new)) result
         setting.now.limits.now
-        (answered setting.now.limits.now.steps setting.now.symbols.now breaks.old
+        (answered setting.now.limits.now.steps setting.now.legend.now breaks.old
         (pages_at (engine machine.old)) request.now) }
     ensures breaks { BreaksFrom
         (scene (engine machine.old) (F.contents file.old) (K.contents sink.old)) result breaks.new
-        (breaks_after setting.now.symbols.now breaks.old request.now) }
+        (breaks_after setting.now.legend.now breaks.old request.now) }
     ensures counts { Counts result (F.faults file.old) (F.faults file.new) (K.faults sink.old)
         (K.faults sink.new) }
     ensures only { OnlyReplied (K.contents sink.old) (K.contents sink.new) }
@@ -159,6 +160,6 @@ pub(crate) fn answer<F: PageFile, K: Sink>(
         Request::Turn => turn(setting, breaks, machine, file, sink),
         Request::Evict(at) => evict_at(at, setting, machine, file, sink),
         Request::EvictAll => evict_all(machine, file, sink),
-        request => show(request, setting.symbols, breaks, machine, file, sink),
+        request => show(request, setting.legend, breaks, machine, file, sink),
     }
 }

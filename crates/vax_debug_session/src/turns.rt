@@ -31,6 +31,7 @@ fn end_for(request: &Request) -> Option<SessionEnd>
     match request {
         Request::Quit => Some(SessionEnd::Quit),
         Request::Save => Some(SessionEnd::Save),
+        Request::Restart => Some(SessionEnd::Restart),
         _ => None,
     }
 }
@@ -62,11 +63,11 @@ fn carry_out<F: PageFile, K: Sink>(
         (scene (engine machine.old) (F.contents file.old) (K.contents sink.old))
         (scene (engine machine.new) (F.contents file.new) (K.contents sink.new)) result
         setting.now.limits.now
-        (carried_out setting.now.limits.now.steps setting.now.symbols.now breaks.old
+        (carried_out setting.now.limits.now.steps setting.now.legend.now breaks.old
         (exchange line.now (pages_at (engine machine.old))) said.now) }
     ensures breaks { BreaksFrom
         (scene (engine machine.old) (F.contents file.old) (K.contents sink.old)) result breaks.new
-        (breaks_behind setting.now.symbols.now breaks.old said.now) }
+        (breaks_behind setting.now.legend.now breaks.old said.now) }
     ensures counts { Counts result (F.faults file.old) (F.faults file.new) (K.faults sink.old)
         (K.faults sink.new) }
     ensures only { OnlyReplied (K.contents sink.old) (K.contents sink.new) }
@@ -100,7 +101,7 @@ fn answer_line<F: PageFile, K: Sink>(
 ) -> Option<SessionEnd>
     requires few_turns { setting.now.limits.now.turns < 2 ^ 64 - 2 }
     ensures answers { (prompts : Bool) →
-        Answers result (terms setting.now.limits.now setting.now.symbols.now prompts)
+        Answers result (terms setting.now.limits.now setting.now.legend.now prompts)
         breaks.old breaks.new (exchange line.now (pages_at (engine machine.old)))
         (scene (engine machine.old) (F.contents file.old) (K.contents sink.old))
         (scene (engine machine.new) (F.contents file.new) (K.contents sink.new)) }
@@ -147,7 +148,7 @@ pub(crate) fn hold_line<L: Lines, F: PageFile, K: Sink>(
 ) -> Option<SessionEnd>
     requires few_turns { setting.now.limits.now.turns < 2 ^ 64 - 2 }
     ensures holds { HoldsOn result
-        (terms setting.now.limits.now setting.now.symbols.now prompts) breaks.old breaks.new
+        (terms setting.now.limits.now setting.now.legend.now prompts) breaks.old breaks.new
         (stage (scene (engine machine.old) (F.contents file.old) (K.contents sink.old))
         (scene (engine machine.new) (F.contents file.new) (K.contents sink.new))
         (L.rest lines.old) (L.rest lines.new)) }

@@ -1,5 +1,6 @@
--- The symbols of a program's files: what the names of its sources stand for in the program that they are linked to.
-use Rattle.std.specs.Prelude.{◌≡◌, ◌⊎◌, ℕ, Bool, true, false, List, [], ◌∷◌, ◌++◌, length, take, drop, slice_index, Option, Some, None}
+-- The symbols and the source lines of a program's files: what the names of its sources stand for in the program that they are linked to, and where their
+-- statements lie there.
+use Rattle.std.specs.Prelude.{◌≡◌, ◌⊎◌, ℕ, ◌+◌, nat_lt, Bool, true, false, if◌then◌else◌, List, [], ◌∷◌, ◌++◌, length, take, drop, slice_index, Option, None, Some}
 use Rattle.std.specs.List.{flat_map}
 use Rattle.vax_dialect.specs.declared.Dialect.{Dialect}
 use Rattle.vax_lex.specs.declared.value.Value.{Value}
@@ -13,8 +14,11 @@ use Rattle.vax_program.specs.Program.{is_linked}
 use Rattle.vax_asm_listing.specs.Listed.{AreTraced, IsFaulty}
 use Rattle.vax_asm_listing.specs.declared.types.Label.{Label}
 use Rattle.vax_asm_listing.specs.declared.types.Notes.{Notes}
+use Rattle.vax_asm_listing.specs.declared.types.Row.{Row}
+use Rattle.vax_debug_names.specs.declared.SourceLine.{SourceLine}
 use Rattle.vax_debug_names.specs.declared.Symbol.{Symbol}
 use Rattle.vax_debug_symbols.specs.declared.Meaning.{Meaning}
+use Rattle.vax_debug_symbols.specs.declared.Table.{Table}
 
 -- a value of a module whose sections have these places: a number, an address, or what another module says
 abbrev pub meaning_of : (places : List ℕ) → Option Value → Option Meaning
@@ -45,15 +49,48 @@ symbols_from places (m ∷ modules) (n ∷ notes) =
     symbols_in (take (length m.sections) places) n.labels.items ++ symbols_from (drop (length m.sections) places) modules notes
 symbols_from places _ _ = []
 
+-- a statement of a file, with the address of its first byte
+abbrev pub line_of : (places : List ℕ) → (file : ℕ) → Row → SourceLine
+line_of places file row = record {
+  address = plus (slice_index places row.section) row.begin;
+  file = file;
+  number = row.origin.line;
+  text = row.text;
+}
+
+-- one without bytes is no line
+unfoldable pub lines_of : (places : List ℕ) → (file : ℕ) → Row → List SourceLine
+lines_of places file row = if nat_lt row.begin row.end then line_of places file row ∷ [] else []
+
+-- the statements of a module, as its listing has them
+abbrev pub lines_in : (places : List ℕ) → (file : ℕ) → List Row → List SourceLine
+lines_in places file rows = flat_map (lines_of places file) rows
+
+-- those of modules with what these left, of which the first is this file; the first places are those of the first one's sections
+unfoldable pub lines_from : (places : List ℕ) → (file : ℕ) → List Module → List Notes → List SourceLine
+lines_from places file (m ∷ modules) (n ∷ notes) =
+    lines_in (take (length m.sections) places) file n.rows.items ++ lines_from (drop (length m.sections) places) (file + 1) modules notes
+lines_from places file _ _ = []
+
+-- a table without symbols and lines
+pub record IsEmpty (table : Table) : Type 0 where
+  pub symbols : table.symbols.items ≡ []
+  pub lines : table.lines.items ≡ []
+
 -- the linker has no room for modules
-pub record HaveNoRoom (region : Base) (modules : List Module) (symbols : List Symbol) : Type 0 where
+pub record HaveNoRoom (region : Base) (modules : List Module) (table : Table) : Type 0 where
   pub room : is_too_large region (pieces_of modules) ≡ true
-  pub none : symbols ≡ []
+  pub none : IsEmpty table
+
+-- the symbols and the lines of modules whose sections lie at these places
+pub record ArePlaced (places : List ℕ) (modules : List Module) (notes : List Notes) (table : Table) : Type 0 where
+  pub symbols : table.symbols.items ≡ symbols_from places modules notes
+  pub lines : table.lines.items ≡ lines_from places 0 modules notes
 
 -- those of modules where the linker lays their sections, if it has room for these
-abbrev pub AreLinked : Base → List Module → List Notes → List Symbol → Type 0
-AreLinked region modules notes symbols =
-    HaveNoRoom region modules symbols ⊎ (symbols ≡ symbols_from (addresses region (pieces_of modules)) modules notes)
+abbrev pub IsLinked : Base → List Module → List Notes → Table → Type 0
+IsLinked region modules notes table =
+    HaveNoRoom region modules table ⊎ ArePlaced (addresses region (pieces_of modules)) modules notes table
 
 -- an image or an executable, which stands alone
 abbrev pub is_linked_alone : List (List ℕ) → Bool
@@ -67,19 +104,19 @@ pub record HasFault (dialect : Dialect) (sources : List (List ℕ)) : Type 0 whe
   pub kind : FaultKind
   pub faulty : IsFaulty dialect sources file line kind
 
--- files that have no symbols: a linked program, or sources with a fault
-pub record HaveNone (dialect : Dialect) (files : List (List ℕ)) (symbols : List Symbol) : Type 0 where
+-- files that have no symbols and no lines: a linked program, or sources with a fault
+pub record HaveNone (dialect : Dialect) (files : List (List ℕ)) (table : Table) : Type 0 where
   pub why : (is_linked_alone files ≡ true) ⊎ HasFault dialect files
-  pub none : symbols ≡ []
+  pub none : IsEmpty table
 
--- sources of a dialect, of which each is a module and leaves its names
-pub record AreNamed (dialect : Dialect) (region : Base) (sources : List (List ℕ)) (symbols : List Symbol) : Type 0 where
+-- sources of a dialect, of which each is a module and leaves its names and its statements
+pub record AreNamed (dialect : Dialect) (region : Base) (sources : List (List ℕ)) (table : Table) : Type 0 where
   pub modules : List Module
   pub notes : List Notes
   pub traced : AreTraced dialect sources modules notes
-  pub linked : AreLinked region modules notes symbols
+  pub linked : IsLinked region modules notes table
 
--- the symbols of files, whose sources are of a dialect
-abbrev pub AreSymbols : Dialect → Base → (files : List (List ℕ)) → List Symbol → Type 0
-AreSymbols dialect region files symbols =
-    HaveNone dialect files symbols ⊎ AreNamed dialect region files symbols
+-- the symbols and the lines of files, whose sources are of a dialect
+abbrev pub IsTable : Dialect → Base → (files : List (List ℕ)) → Table → Type 0
+IsTable dialect region files table =
+    HaveNone dialect files table ⊎ AreNamed dialect region files table

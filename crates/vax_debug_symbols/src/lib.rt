@@ -1,5 +1,5 @@
-//! The symbols of a program's files, for its debugger: the names of its sources, with the addresses and the numbers that these stand for in the
-//! program that they are linked to.
+//! The symbols and the source lines of a program's files, for its debugger: the names of its sources, with the addresses and the numbers that these stand
+//! for in the program that they are linked to, and the statements of its sources, with the addresses of their first bytes there.
 #![tactic(auto)]
 
 ghost use Rattle.std.specs.Prelude.{◌≡◌, ◌++◌, ◌≤◌, IfOk, OnOk, length, slice_index};
@@ -8,8 +8,8 @@ ghost use Rattle.vax_link.specs.Names.{low_longword};
 ghost use Rattle.vax_debug_symbols.specs.Symbols as spec;
 
 use std::alloc::{AllocError, Global};
-use vax_asm_listing::{Label, ListingError, Notes, trace_files};
-use vax_debug_names::Symbol;
+use vax_asm_listing::{Label, ListingError, Notes, Row, trace_files};
+use vax_debug_names::{SourceLine, Symbol};
 use vax_dialect::Dialect;
 use vax_image::Base;
 use vax_lex::Value;
@@ -133,21 +133,113 @@ fn push_modules(
     Ok(())
 }
 
-/// The symbols of modules with what these left, linked for a base.
-fn symbols_of_modules(
+/// A statement of a file with the address of its first byte.
+fn line_of(alloc: Global, places: &[u32], file: usize, row: &Row) -> Result<SourceLine, AllocError>
+    ensures { IfOk result (λ l. l ≡ spec.line_of places.now file row.now) }
+{
+    Ok(SourceLine {
+        address: place_of(places, row.section).wrapping_add(row.begin),
+        file,
+        number: row.origin.line,
+        text: Bytes::from(row.text.as_slice().to_vec(alloc)?),
+    })
+}
+
+/// Appends the line of a statement, if it has bytes.
+#[tactic(auto, unfolding(crate::specs::Symbols::lines_of))]
+fn push_line(
+    alloc: Global,
+    lines: &mut Vec<SourceLine>,
+    places: &[u32],
+    file: usize,
+    row: &Row,
+) -> Result<(), AllocError>
+    ensures { OnOk result (lines.new.items
+        ≡ lines.old.items ++ spec.lines_of places.now file row.now) }
+{
+    if row.begin < row.end {
+        lines.push(line_of(alloc, places, file, row)?)?;
+    }
+    Ok(())
+}
+
+/// Appends the lines of a module's statements.
+fn push_rows(
+    alloc: Global,
+    lines: &mut Vec<SourceLine>,
+    places: &[u32],
+    file: usize,
+    rows: &[Row],
+) -> Result<(), AllocError>
+    ensures { OnOk result (lines.new.items
+        ≡ lines.old.items ++ spec.lines_in places.now file rows.now) }
+{
+    for row in rows {
+        push_line(alloc, lines, places, file, row)?;
+    }
+    Ok(())
+}
+
+/// Appends the lines of modules with what these left. The first places are those of the first one's sections.
+#[tactic(auto, unfolding(crate::specs::Symbols::lines_from))]
+fn push_all_rows(
+    alloc: Global,
+    lines: &mut Vec<SourceLine>,
+    places: &[u32],
+    modules: &[Module],
+    notes: &[Notes],
+) -> Result<(), AllocError>
+    ensures { OnOk result (lines.new.items
+        ≡ lines.old.items ++ spec.lines_from places.now 0 modules.now notes.now) }
+{
+    let mut rest = places;
+    let mut left = notes;
+    for (file, module) in modules.iter().enumerate() {
+        let Some((note, others)) = left.split_first() else {
+            return Ok(());
+        };
+        let count = module.sections.as_slice().len();
+        let (own, above) = rest.split_at(count.min(rest.len()));
+        push_rows(alloc, lines, own, file, &note.rows)?;
+        rest = above;
+        left = others;
+    }
+    Ok(())
+}
+
+/// A program's symbols and source lines.
+#[derive(Drop)]
+pub struct Table {
+    pub symbols: Vec<Symbol>,
+    pub lines: Vec<SourceLine>,
+}
+
+/// A table without entries.
+fn no_table(alloc: Global) -> Table
+    ensures { spec.IsEmpty result }
+{
+    Table {
+        symbols: Vec::new(alloc),
+        lines: Vec::new(alloc),
+    }
+}
+
+/// The symbols and the lines of modules with what these left, linked for a base.
+fn table_of_modules(
     alloc: Global,
     base: Base,
     modules: &[Module],
     notes: &[Notes],
-) -> Result<Vec<Symbol>, AllocError>
-    ensures { IfOk result (λ v. spec.AreLinked base modules.now notes.now v.items) }
+) -> Result<Table, AllocError>
+    ensures { IfOk result (spec.IsLinked base modules.now notes.now) }
 {
     let Some(places) = addresses(alloc, base, modules)? else {
-        return Ok(Vec::new(alloc));
+        return Ok(no_table(alloc));
     };
-    let mut symbols = Vec::new(alloc);
-    push_modules(alloc, &mut symbols, &places, modules, notes)?;
-    Ok(symbols)
+    let mut table = no_table(alloc);
+    push_modules(alloc, &mut table.symbols, &places, modules, notes)?;
+    push_all_rows(alloc, &mut table.lines, &places, modules, notes)?;
+    Ok(table)
 }
 
 /// Whether files are an image or an executable, which stands alone.
@@ -160,25 +252,26 @@ fn is_linked_alone(files: &[Vec<u8>]) -> bool
     }
 }
 
-/// The symbols of a program's files for a base: the names of its sources, which are of a dialect, those of the first source first, each in the order in which they first
-/// appear. Local labels are left out, and so are names that another module defines, or that rest on such.
+/// The symbols and the source lines of a program's files for a base: the names of its sources, which are of a dialect, those of the first source first, each in
+/// the order in which they first appear, and the statements that have bytes, in the same order. Local labels are left out, and so are names that another module
+/// defines, or that rest on such. A statement of an expansion is one of the line where the macro is called or the repeat begins.
 ///
 /// An image or an executable has none, and neither have sources with a fault, or for which there is no room. [`NoMemory`] where memory is refused.
-pub fn symbols_of_files(
+pub fn table_of_files(
     alloc: Global,
     dialect: Dialect,
     base: Base,
     files: &[Vec<u8>],
-) -> Result<Vec<Symbol>, NoMemory>
+) -> Result<Table, NoMemory>
     requires { length files.now ≤ 8 }
-    ensures { IfOk result (λ v. spec.AreSymbols dialect base (texts files.now) v.items) }
+    ensures { IfOk result (spec.IsTable dialect base (texts files.now)) }
 {
     if is_linked_alone(files) {
-        return Ok(Vec::new(alloc));
+        return Ok(no_table(alloc));
     }
     match trace_files(alloc, dialect, files) {
-        Ok((modules, notes)) => Ok(symbols_of_modules(alloc, base, &modules, &notes)?),
-        Err(ListingError::Source { .. }) => Ok(Vec::new(alloc)),
+        Ok((modules, notes)) => Ok(table_of_modules(alloc, base, &modules, &notes)?),
+        Err(ListingError::Source { .. }) => Ok(no_table(alloc)),
         // Nothing is linked here.
         Err(ListingError::Link(_) | ListingError::NoMemory) => Err(NoMemory),
     }

@@ -1,7 +1,7 @@
 //! Tests of what a debugger does and replies. Expected replies are worked by hand.
 ghost use Rattle.vax_debug_words.specs.Expressions.{IsExpression};
 
-use crate::steps::{CALLS, PROCEDURE, SUBROUTINE, machine_with, surroundings};
+use crate::steps::{CALLS, PROCEDURE, SUBROUTINE, machine_with, surroundings, untold};
 use std::test::Fail;
 use vax_debug_acts::{
     Plan, Setting, clear_all, clear_at, deposit_into_memory, deposit_into_register, evict_all,
@@ -26,8 +26,9 @@ fn a_break_is_made_and_cleared(rt: HostRuntime) -> Result<(), Fail> {
     let mut machine = machine_with(rt.alloc(), &CALLS)?;
     let mut a = surroundings(rt.alloc())?;
     assert!(rt; a.limits.turns <= 1_000);
+    let legend = untold();
     let setting = Setting {
-        symbols: &[],
+        legend: &legend,
         limits: &a.limits,
         schedule: &a.schedule,
     };
@@ -67,8 +68,9 @@ fn steps_tell_where_they_stop(rt: HostRuntime) -> Result<(), Fail> {
     let mut machine = machine_with(rt.alloc(), &CALLS)?;
     let mut a = surroundings(rt.alloc())?;
     assert!(rt; a.limits.turns <= 1_000);
+    let legend = untold();
     let setting = Setting {
-        symbols: &[],
+        legend: &legend,
         limits: &a.limits,
         schedule: &a.schedule,
     };
@@ -98,8 +100,9 @@ fn a_procedure_is_left_and_told(rt: HostRuntime) -> Result<(), Fail> {
     let mut machine = machine_with(rt.alloc(), &PROCEDURE)?;
     let mut a = surroundings(rt.alloc())?;
     assert!(rt; a.limits.turns <= 1_000);
+    let legend = untold();
     let setting = Setting {
-        symbols: &[],
+        legend: &legend,
         limits: &a.limits,
         schedule: &a.schedule,
     };
@@ -118,8 +121,9 @@ fn a_procedure_is_left_and_told(rt: HostRuntime) -> Result<(), Fail> {
 fn values_are_changed(rt: HostRuntime) -> Result<(), Fail> {
     let mut machine = machine_with(rt.alloc(), &CALLS)?;
     let mut a = surroundings(rt.alloc())?;
+    let legend = untold();
     let setting = Setting {
-        symbols: &[],
+        legend: &legend,
         limits: &a.limits,
         schedule: &a.schedule,
     };
@@ -161,8 +165,9 @@ fn absent_pages_lose_no_byte(rt: HostRuntime) -> Result<(), Fail> {
     let mut machine = machine_with(rt.alloc(), &CALLS)?;
     let mut a = surroundings(rt.alloc())?;
     assert!(rt; a.limits.turns <= 1_000);
+    let legend = untold();
     let setting = Setting {
-        symbols: &[],
+        legend: &legend,
         limits: &a.limits,
         schedule: &a.schedule,
     };

@@ -6,6 +6,7 @@ use vax_debug::{
     Breaks, Marks, Snapshot, Watch, Watches, deposit, evict, examine, frame_goal, go, go_to, look,
     over, step, until,
 };
+use vax_debug_names::Legend;
 use vax_machine::{Limits, Machine};
 use vax_outside::{MemPages, MemSink};
 use vax_sched::Schedule;
@@ -51,6 +52,16 @@ pub(crate) fn machine_with(alloc: Global, program: &[u8]) -> Result<Machine, Fai
     };
     let space = Space::new(alloc, areas)?;
     Ok(Machine::new(alloc, space, core, Vec::new(alloc), 64)?)
+}
+
+/// What a program is told by that has no sources.
+pub(crate) fn untold<'a>() -> Legend<'a> {
+    Legend {
+        symbols: &[],
+        lines: &[],
+        names: &[],
+        preludes: &[],
+    }
 }
 
 /// What a session of calls goes with.

@@ -2,7 +2,7 @@
 ghost use Rattle.std.specs.Prelude.{◌<◌};
 ghost use Rattle.vax_debug_words.specs.Expressions.{IsExpression};
 
-use crate::steps::{machine_with, surroundings};
+use crate::steps::{machine_with, surroundings, untold};
 use std::test::Fail;
 use vax_debug::{Breaks, Failure};
 use vax_debug_views::{
@@ -44,6 +44,7 @@ fn shows_registers(rt: HostRuntime) -> Result<(), Fail> {
 fn shows_memory(rt: HostRuntime) -> Result<(), Fail> {
     let mut machine = machine_with(rt.alloc(), &CALL)?;
     let mut a = surroundings(rt.alloc())?;
+    let legend = untold();
     let span = Span {
         from: held(15),
         count: 2,
@@ -51,13 +52,13 @@ fn shows_memory(rt: HostRuntime) -> Result<(), Fail> {
     let shown = show_memory(
         Form::Word,
         &span,
-        &[],
+        &legend,
         &mut machine,
         &mut a.file,
         &mut a.sink,
     );
     assert!(rt; shown.is_ok());
-    assert!(rt; show_stack(1, &[], &mut machine, &mut a.file, &mut a.sink).is_ok());
+    assert!(rt; show_stack(1, &legend, &mut machine, &mut a.file, &mut a.sink).is_ok());
     assert!(rt;
         a.sink.bytes(Chan::Report)
             == b"80000200: 0410\n80000202: 51D6\n80000600: --------\n".as_slice()
@@ -69,17 +70,18 @@ fn shows_memory(rt: HostRuntime) -> Result<(), Fail> {
 fn shows_instructions(rt: HostRuntime) -> Result<(), Fail> {
     let mut machine = machine_with(rt.alloc(), &CALL)?;
     let mut a = surroundings(rt.alloc())?;
+    let legend = untold();
     let span = Span {
         from: held(15),
         count: 2,
     };
-    let shown = disassemble(&span, &[], &mut machine, &mut a.file, &mut a.sink);
+    let shown = disassemble(&span, &legend, &mut machine, &mut a.file, &mut a.sink);
     assert!(rt; shown.is_ok());
     assert!(rt;
         a.sink.bytes(Chan::Report) == b"80000200: BSBB ^X80000206\n80000202: INCL R1\n".as_slice()
     );
     // there is no room for ten more
-    assert!(rt; disassemble_here(&[], &mut machine, &mut a.file, &mut a.sink).is_err());
+    assert!(rt; disassemble_here(&legend, &mut machine, &mut a.file, &mut a.sink).is_err());
     Ok(())
 }
 
@@ -87,8 +89,9 @@ fn shows_instructions(rt: HostRuntime) -> Result<(), Fail> {
 fn shows_frames_and_queues(rt: HostRuntime) -> Result<(), Fail> {
     let mut machine = machine_with(rt.alloc(), &CALL)?;
     let mut a = surroundings(rt.alloc())?;
-    assert!(rt; show_frames(&[], &mut machine, &mut a.file, &mut a.sink).is_ok());
-    assert!(rt; show_queue(&held(15), &[], &mut machine, &mut a.file, &mut a.sink).is_ok());
+    let legend = untold();
+    assert!(rt; show_frames(&legend, &mut machine, &mut a.file, &mut a.sink).is_ok());
+    assert!(rt; show_queue(&held(15), &legend, &mut machine, &mut a.file, &mut a.sink).is_ok());
     assert!(rt;
         a.sink.bytes(Chan::Report)
             == b"0 80000200 FP 00000000 AP 00000000\n80000200: 51D60410\n51D60410: --------\n".as_slice()
@@ -99,9 +102,10 @@ fn shows_frames_and_queues(rt: HostRuntime) -> Result<(), Fail> {
 #[test]
 fn replies_without_a_machine(rt: HostRuntime) -> Result<(), Fail> {
     let mut a = surroundings(rt.alloc())?;
+    let legend = untold();
     assert!(rt; reply(b"OK\n", &mut a.sink).is_ok());
     assert!(rt; reply_nowhere(&mut a.sink).is_ok());
-    assert!(rt; show_breaks(&[], &Breaks::new(), &mut a.sink).is_ok());
+    assert!(rt; show_breaks(&legend, &Breaks::new(), &mut a.sink).is_ok());
     assert!(rt; show_refusal(Refusal::Length, b"", &mut a.sink).is_ok());
     assert!(rt;
         a.sink.bytes(Chan::Report)

@@ -55,6 +55,8 @@ fn takes_unique_beginnings(rt: HostRuntime) -> Result<(), Fail> {
     );
     assert!(rt; matches!(read_line(b"di"), Line::Request(Request::Disassemble(None))));
     assert!(rt; matches!(read_line(b"sa"), Line::Request(Request::Save)));
+    assert!(rt; matches!(read_line(b"R"), Line::Request(Request::Restart)));
+    assert!(rt; matches!(read_line(b"restart"), Line::Request(Request::Restart)));
     assert!(rt; matches!(read_line(b"qui"), Line::Request(Request::Quit)));
     assert!(rt; matches!(read_line(b""), Line::Blank));
     assert!(rt; matches!(read_line(b"   "), Line::Blank));
@@ -74,6 +76,8 @@ fn tells_what_is_refused(rt: HostRuntime) -> Result<(), Fail> {
     assert!(rt; refused(b"pages 1") == Some(Refusal::Usage(Command::Pages)));
     assert!(rt; refused(b"/b 200") == Some(Refusal::Unknown));
     assert!(rt; refused(b"save state") == Some(Refusal::Usage(Command::Save)));
+    assert!(rt; refused(b"restart 0") == Some(Refusal::Usage(Command::Restart)));
+    assert!(rt; refused(b"restarts") == Some(Refusal::Unknown));
     assert!(rt; refused(b"go 1") == Some(Refusal::Usage(Command::Go)));
     assert!(rt; refused(b"go/b") == Some(Refusal::Usage(Command::Go)));
     assert!(rt; refused(b"step 0") == Some(Refusal::Usage(Command::Step)));
@@ -111,6 +115,19 @@ fn reads_places(rt: HostRuntime) -> Result<(), Fail> {
         )
     );
     assert!(rt; matches!(read_line(b"ex psl"), Line::Request(Request::ExamineStatus)));
+    assert!(rt;
+        matches!(
+            read_line(b"ex psl.ipl"),
+            Line::Request(Request::ExamineField(Field::Priority))
+        )
+    );
+    assert!(rt; refused(b"ex psl.ipl 2").is_none());
+    assert!(rt;
+        matches!(
+            read_line(b"ex/l psl.n"),
+            Line::Request(Request::ExamineMemory(Form::Long, _))
+        )
+    );
     let shown = read_line(b"examine list+10");
     assert!(rt;
         matches!(&shown, Line::Request(Request::ExamineMemory(Form::Long, at))
@@ -192,7 +209,7 @@ fn count_of(text: &[u8]) -> usize {
 
 #[test]
 fn tells_what_would_be_understood(rt: HostRuntime) -> Result<(), Fail> {
-    assert!(rt; count_of(b"frob") == 21);
+    assert!(rt; count_of(b"frob") == 22);
     assert!(rt; count_of(b"s") == 4);
     assert!(rt; count_of(b"st") == 2);
     assert!(rt; count_of(b"go 1") == 1);

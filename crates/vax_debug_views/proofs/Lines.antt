@@ -1,8 +1,8 @@
 -- The lines that are left of a reply, one after the other.
-use Rattle.std.proofs.Common.{◌≡◌, ◌<◌, ◌≤◌, ◌+◌, ◌-◌, ℕ, zero, suc, List, [], ◌++◌, refl, sym, ap, ◌∙◌, arith}
+use Rattle.std.proofs.Common.{◌≡◌, ◌<◌, ◌≤◌, ◌+◌, ◌-◌, ℕ, zero, suc, [], ◌++◌, refl, sym, ap, ◌∙◌, arith}
 use Rattle.vax_flat.specs.Step.{Flat}
 use Rattle.vax_machine.specs.Console.{memory_from}
-use Rattle.vax_debug_names.specs.declared.Symbol.{Symbol}
+use Rattle.vax_debug_names.specs.declared.Legend.{Legend}
 use Rattle.vax_debug_replies.specs.Frames.{frame_line}
 use Rattle.vax_debug_replies.specs.Values.{value_line}
 use Rattle.vax_debug_replies.specs.declared.frames.Frame.{Frame}
@@ -19,86 +19,86 @@ none_left count i all = omega (arith, all)
 
 -- values
 
-pub values_first : (symbols : List Symbol) (size count a : ℕ) (m : Flat) → values_shown symbols size (count - 0) a m ≡ values_shown symbols size count a m
-values_first symbols size count a m = ap (λ (n : ℕ). values_shown symbols size n a m) (all_left count)
+pub values_first : (legend : Legend) (size count a : ℕ) (m : Flat) → values_shown legend size (count - 0) a m ≡ values_shown legend size count a m
+values_first legend size count a m = ap (λ (n : ℕ). values_shown legend size n a m) (all_left count)
 
-one_value : (symbols : List Symbol) (size n a : ℕ) (m : Flat) → values_shown symbols size (suc n) a m ≡ value_line symbols a (memory_from m.memory a size) ++ values_shown symbols size n (beyond a size) m
+one_value : (legend : Legend) (size n a : ℕ) (m : Flat) → values_shown legend size (suc n) a m ≡ value_line legend a (memory_from m.memory a size) ++ values_shown legend size n (beyond a size) m
 unfolding values_shown
-one_value symbols size n a m = refl
+one_value legend size n a m = refl
 
-pub values_next : (symbols : List Symbol) (size count i a b : ℕ) (m : Flat) → i < count → b ≡ beyond a size →
-    values_shown symbols size (count - i) a m ≡ value_line symbols a (memory_from m.memory a size) ++ values_shown symbols size (count - (i + 1)) b m
-values_next symbols size count i a b m below is =
-    ap (λ (n : ℕ). values_shown symbols size n a m) (one_less count i below)
-    ∙ (one_value symbols size (count - (i + 1)) a m
-    ∙ ap (λ (k : ℕ). value_line symbols a (memory_from m.memory a size) ++ values_shown symbols size (count - (i + 1)) k m) (sym is))
+pub values_next : (legend : Legend) (size count i a b : ℕ) (m : Flat) → i < count → b ≡ beyond a size →
+    values_shown legend size (count - i) a m ≡ value_line legend a (memory_from m.memory a size) ++ values_shown legend size (count - (i + 1)) b m
+values_next legend size count i a b m below is =
+    ap (λ (n : ℕ). values_shown legend size n a m) (one_less count i below)
+    ∙ (one_value legend size (count - (i + 1)) a m
+    ∙ ap (λ (k : ℕ). value_line legend a (memory_from m.memory a size) ++ values_shown legend size (count - (i + 1)) k m) (sym is))
 
-no_values : (symbols : List Symbol) (size a : ℕ) (m : Flat) → values_shown symbols size zero a m ≡ []
+no_values : (legend : Legend) (size a : ℕ) (m : Flat) → values_shown legend size zero a m ≡ []
 unfolding values_shown
-no_values symbols size a m = refl
+no_values legend size a m = refl
 
-pub values_last : (symbols : List Symbol) (size count i a : ℕ) (m : Flat) → count ≤ i → values_shown symbols size (count - i) a m ≡ []
-values_last symbols size count i a m all = ap (λ (n : ℕ). values_shown symbols size n a m) (none_left count i all) ∙ no_values symbols size a m
+pub values_last : (legend : Legend) (size count i a : ℕ) (m : Flat) → count ≤ i → values_shown legend size (count - i) a m ≡ []
+values_last legend size count i a m all = ap (λ (n : ℕ). values_shown legend size n a m) (none_left count i all) ∙ no_values legend size a m
 
 -- instructions
 
-pub instructions_first : (symbols : List Symbol) (count a : ℕ) (m : Flat) → instructions_shown symbols (count - 0) a m ≡ instructions_shown symbols count a m
-instructions_first symbols count a m = ap (λ (n : ℕ). instructions_shown symbols n a m) (all_left count)
+pub instructions_first : (legend : Legend) (count a : ℕ) (m : Flat) → instructions_shown legend (count - 0) a m ≡ instructions_shown legend count a m
+instructions_first legend count a m = ap (λ (n : ℕ). instructions_shown legend n a m) (all_left count)
 
-one_instruction : (symbols : List Symbol) (n a : ℕ) (m : Flat) → instructions_shown symbols (suc n) a m ≡ instruction_shown symbols a m ++ instructions_shown symbols n (behind_instruction a m) m
+one_instruction : (legend : Legend) (n a : ℕ) (m : Flat) → instructions_shown legend (suc n) a m ≡ instruction_shown legend a m ++ instructions_shown legend n (behind_instruction a m) m
 unfolding instructions_shown
-one_instruction symbols n a m = refl
+one_instruction legend n a m = refl
 
-pub instructions_next : (symbols : List Symbol) (count i a : ℕ) (m : Flat) → i < count →
-    instructions_shown symbols (count - i) a m ≡ instruction_shown symbols a m ++ instructions_shown symbols (count - (i + 1)) (behind_instruction a m) m
-instructions_next symbols count i a m below =
-    ap (λ (n : ℕ). instructions_shown symbols n a m) (one_less count i below) ∙ one_instruction symbols (count - (i + 1)) a m
+pub instructions_next : (legend : Legend) (count i a : ℕ) (m : Flat) → i < count →
+    instructions_shown legend (count - i) a m ≡ instruction_shown legend a m ++ instructions_shown legend (count - (i + 1)) (behind_instruction a m) m
+instructions_next legend count i a m below =
+    ap (λ (n : ℕ). instructions_shown legend n a m) (one_less count i below) ∙ one_instruction legend (count - (i + 1)) a m
 
-no_instructions : (symbols : List Symbol) (a : ℕ) (m : Flat) → instructions_shown symbols zero a m ≡ []
+no_instructions : (legend : Legend) (a : ℕ) (m : Flat) → instructions_shown legend zero a m ≡ []
 unfolding instructions_shown
-no_instructions symbols a m = refl
+no_instructions legend a m = refl
 
-pub instructions_last : (symbols : List Symbol) (count i a : ℕ) (m : Flat) → count ≤ i → instructions_shown symbols (count - i) a m ≡ []
-instructions_last symbols count i a m all = ap (λ (n : ℕ). instructions_shown symbols n a m) (none_left count i all) ∙ no_instructions symbols a m
+pub instructions_last : (legend : Legend) (count i a : ℕ) (m : Flat) → count ≤ i → instructions_shown legend (count - i) a m ≡ []
+instructions_last legend count i a m all = ap (λ (n : ℕ). instructions_shown legend n a m) (none_left count i all) ∙ no_instructions legend a m
 
 -- frames
 
-pub frames_first : (symbols : List Symbol) (count : ℕ) (f : Frame) (m : Flat) → frames_from symbols (count - 0) 0 f m ≡ frames_from symbols count 0 f m
-frames_first symbols count f m = ap (λ (n : ℕ). frames_from symbols n 0 f m) (all_left count)
+pub frames_first : (legend : Legend) (count : ℕ) (f : Frame) (m : Flat) → frames_from legend (count - 0) 0 f m ≡ frames_from legend count 0 f m
+frames_first legend count f m = ap (λ (n : ℕ). frames_from legend n 0 f m) (all_left count)
 
-one_frame : (symbols : List Symbol) (n number : ℕ) (f : Frame) (m : Flat) → frames_from symbols (suc n) number f m ≡ frame_line symbols number f ++ if_any (λ (next : Frame). frames_from symbols n (number + 1) next m) (caller f m)
+one_frame : (legend : Legend) (n number : ℕ) (f : Frame) (m : Flat) → frames_from legend (suc n) number f m ≡ frame_line legend number f ++ if_any (λ (next : Frame). frames_from legend n (number + 1) next m) (caller f m)
 unfolding frames_from
-one_frame symbols n number f m = refl
+one_frame legend n number f m = refl
 
-pub frames_next : (symbols : List Symbol) (count i : ℕ) (f : Frame) (m : Flat) → i < count →
-    frames_from symbols (count - i) i f m ≡ frame_line symbols i f ++ if_any (λ (next : Frame). frames_from symbols (count - (i + 1)) (i + 1) next m) (caller f m)
-frames_next symbols count i f m below =
-    ap (λ (n : ℕ). frames_from symbols n i f m) (one_less count i below) ∙ one_frame symbols (count - (i + 1)) i f m
+pub frames_next : (legend : Legend) (count i : ℕ) (f : Frame) (m : Flat) → i < count →
+    frames_from legend (count - i) i f m ≡ frame_line legend i f ++ if_any (λ (next : Frame). frames_from legend (count - (i + 1)) (i + 1) next m) (caller f m)
+frames_next legend count i f m below =
+    ap (λ (n : ℕ). frames_from legend n i f m) (one_less count i below) ∙ one_frame legend (count - (i + 1)) i f m
 
-no_frames : (symbols : List Symbol) (number : ℕ) (f : Frame) (m : Flat) → frames_from symbols zero number f m ≡ []
+no_frames : (legend : Legend) (number : ℕ) (f : Frame) (m : Flat) → frames_from legend zero number f m ≡ []
 unfolding frames_from
-no_frames symbols number f m = refl
+no_frames legend number f m = refl
 
-pub frames_last : (symbols : List Symbol) (count i : ℕ) (f : Frame) (m : Flat) → count ≤ i → frames_from symbols (count - i) i f m ≡ []
-frames_last symbols count i f m all = ap (λ (n : ℕ). frames_from symbols n i f m) (none_left count i all) ∙ no_frames symbols i f m
+pub frames_last : (legend : Legend) (count i : ℕ) (f : Frame) (m : Flat) → count ≤ i → frames_from legend (count - i) i f m ≡ []
+frames_last legend count i f m all = ap (λ (n : ℕ). frames_from legend n i f m) (none_left count i all) ∙ no_frames legend i f m
 
 -- the entries of a queue
 
-pub entries_first : (symbols : List Symbol) (head count e : ℕ) (m : Flat) → entries_from symbols head (count - 0) e m ≡ entries_from symbols head count e m
-entries_first symbols head count e m = ap (λ (n : ℕ). entries_from symbols head n e m) (all_left count)
+pub entries_first : (legend : Legend) (head count e : ℕ) (m : Flat) → entries_from legend head (count - 0) e m ≡ entries_from legend head count e m
+entries_first legend head count e m = ap (λ (n : ℕ). entries_from legend head n e m) (all_left count)
 
-one_entry : (symbols : List Symbol) (head n e : ℕ) (m : Flat) → entries_from symbols head (suc n) e m ≡ value_line symbols e (memory_from m.memory e 4) ++ if_any (λ (next : ℕ). entries_from symbols head n next m) (next_entry head e m)
+one_entry : (legend : Legend) (head n e : ℕ) (m : Flat) → entries_from legend head (suc n) e m ≡ value_line legend e (memory_from m.memory e 4) ++ if_any (λ (next : ℕ). entries_from legend head n next m) (next_entry head e m)
 unfolding entries_from
-one_entry symbols head n e m = refl
+one_entry legend head n e m = refl
 
-pub entries_next : (symbols : List Symbol) (head count i e : ℕ) (m : Flat) → i < count →
-    entries_from symbols head (count - i) e m ≡ value_line symbols e (memory_from m.memory e 4) ++ if_any (λ (next : ℕ). entries_from symbols head (count - (i + 1)) next m) (next_entry head e m)
-entries_next symbols head count i e m below =
-    ap (λ (n : ℕ). entries_from symbols head n e m) (one_less count i below) ∙ one_entry symbols head (count - (i + 1)) e m
+pub entries_next : (legend : Legend) (head count i e : ℕ) (m : Flat) → i < count →
+    entries_from legend head (count - i) e m ≡ value_line legend e (memory_from m.memory e 4) ++ if_any (λ (next : ℕ). entries_from legend head (count - (i + 1)) next m) (next_entry head e m)
+entries_next legend head count i e m below =
+    ap (λ (n : ℕ). entries_from legend head n e m) (one_less count i below) ∙ one_entry legend head (count - (i + 1)) e m
 
-no_entries : (symbols : List Symbol) (head e : ℕ) (m : Flat) → entries_from symbols head zero e m ≡ []
+no_entries : (legend : Legend) (head e : ℕ) (m : Flat) → entries_from legend head zero e m ≡ []
 unfolding entries_from
-no_entries symbols head e m = refl
+no_entries legend head e m = refl
 
-pub entries_last : (symbols : List Symbol) (head count i e : ℕ) (m : Flat) → count ≤ i → entries_from symbols head (count - i) e m ≡ []
-entries_last symbols head count i e m all = ap (λ (n : ℕ). entries_from symbols head n e m) (none_left count i all) ∙ no_entries symbols head e m
+pub entries_last : (legend : Legend) (head count i e : ℕ) (m : Flat) → count ≤ i → entries_from legend head (count - i) e m ≡ []
+entries_last legend head count i e m all = ap (λ (n : ℕ). entries_from legend head n e m) (none_left count i all) ∙ no_entries legend head e m

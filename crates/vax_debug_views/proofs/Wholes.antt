@@ -9,7 +9,7 @@ use Rattle.vax_debug.specs.Travel.{pc_of, sp_of}
 use Rattle.vax_debug_words.specs.declared.command.Form.{Form}
 use Rattle.vax_debug_words.specs.declared.request.Expression.{Expression}
 use Rattle.vax_debug_words.specs.declared.request.Span.{Span}
-use Rattle.vax_debug_names.specs.declared.Symbol.{Symbol}
+use Rattle.vax_debug_names.specs.declared.Legend.{Legend}
 use Rattle.vax_debug_replies.specs.Instructions.{instruction_at, length_of}
 use Rattle.vax_debug_replies.specs.declared.frames.Frame.{Frame}
 use Rattle.vax_debug.specs.Values.{evaluated}
@@ -17,44 +17,44 @@ use Rattle.vax_debug_views.specs.Views.{behind_instruction, beyond, bytes_at, ca
 
 -- expressions
 
-pub disassembled_there : (symbols : List Symbol) (at : Span) (a : ℕ) (m : Flat) → Some a ≡ evaluated symbols at.from m → instructions_shown symbols at.count a m ≡ disassembled symbols at m
+pub disassembled_there : (legend : Legend) (at : Span) (a : ℕ) (m : Flat) → Some a ≡ evaluated legend at.from m → instructions_shown legend at.count a m ≡ disassembled legend at m
 unfolding disassembled
-disassembled_there symbols at a m e = ap (of_value (λ address. instructions_shown symbols at.count address m)) e
+disassembled_there legend at a m e = ap (of_value (λ address. instructions_shown legend at.count address m)) e
 
-pub disassembled_nowhere : (symbols : List Symbol) (at : Span) (m : Flat) → None ≡ evaluated symbols at.from m → nowhere_line ≡ disassembled symbols at m
+pub disassembled_nowhere : (legend : Legend) (at : Span) (m : Flat) → None ≡ evaluated legend at.from m → nowhere_line ≡ disassembled legend at m
 unfolding disassembled
-disassembled_nowhere symbols at m e = ap (of_value (λ address. instructions_shown symbols at.count address m)) e
+disassembled_nowhere legend at m e = ap (of_value (λ address. instructions_shown legend at.count address m)) e
 
-pub memory_there : (symbols : List Symbol) (f : Form) (at : Span) (a : ℕ) (m : Flat) → Some a ≡ evaluated symbols at.from m → memory_at_shown symbols f at.count a m ≡ memory_shown symbols f at m
+pub memory_there : (legend : Legend) (f : Form) (at : Span) (a : ℕ) (m : Flat) → Some a ≡ evaluated legend at.from m → memory_at_shown legend f at.count a m ≡ memory_shown legend f at m
 unfolding memory_shown
-memory_there symbols f at a m e = ap (of_value (λ address. memory_at_shown symbols f at.count address m)) e
+memory_there legend f at a m e = ap (of_value (λ address. memory_at_shown legend f at.count address m)) e
 
-pub memory_nowhere : (symbols : List Symbol) (f : Form) (at : Span) (m : Flat) → None ≡ evaluated symbols at.from m → nowhere_line ≡ memory_shown symbols f at m
+pub memory_nowhere : (legend : Legend) (f : Form) (at : Span) (m : Flat) → None ≡ evaluated legend at.from m → nowhere_line ≡ memory_shown legend f at m
 unfolding memory_shown
-memory_nowhere symbols f at m e = ap (of_value (λ address. memory_at_shown symbols f at.count address m)) e
+memory_nowhere legend f at m e = ap (of_value (λ address. memory_at_shown legend f at.count address m)) e
 
-pub queue_there : (symbols : List Symbol) (at : Expression) (head : ℕ) (m : Flat) → Some head ≡ evaluated symbols at m → entries_from symbols head 64 head m ≡ queue_shown symbols at m
+pub queue_there : (legend : Legend) (at : Expression) (head : ℕ) (m : Flat) → Some head ≡ evaluated legend at m → entries_from legend head 64 head m ≡ queue_shown legend at m
 unfolding queue_shown
-queue_there symbols at head m e = ap (of_value (λ (n : ℕ). entries_from symbols n 64 n m)) e
+queue_there legend at head m e = ap (of_value (λ (n : ℕ). entries_from legend n 64 n m)) e
 
-pub queue_nowhere : (symbols : List Symbol) (at : Expression) (m : Flat) → None ≡ evaluated symbols at m → nowhere_line ≡ queue_shown symbols at m
+pub queue_nowhere : (legend : Legend) (at : Expression) (m : Flat) → None ≡ evaluated legend at m → nowhere_line ≡ queue_shown legend at m
 unfolding queue_shown
-queue_nowhere symbols at m e = ap (of_value (λ (n : ℕ). entries_from symbols n 64 n m)) e
+queue_nowhere legend at m e = ap (of_value (λ (n : ℕ). entries_from legend n 64 n m)) e
 
 -- the processor
 
-pub stack_here : (symbols : List Symbol) (count : ℕ) (core : Core) (m : Flat) → core ≡ m.core → values_shown symbols 4 count (sp_of core) m ≡ stack_shown symbols count m
+pub stack_here : (legend : Legend) (count : ℕ) (core : Core) (m : Flat) → core ≡ m.core → values_shown legend 4 count (sp_of core) m ≡ stack_shown legend count m
 unfolding stack_shown
-stack_here symbols count core m e = ap (λ (z : Core). values_shown symbols 4 count (sp_of z) m) e
+stack_here legend count core m e = ap (λ (z : Core). values_shown legend 4 count (sp_of z) m) e
 
-pub instructions_here : (symbols : List Symbol) (core : Core) (m : Flat) → core ≡ m.core → instructions_shown symbols 10 (pc_of core) m ≡ disassembled_here symbols m
+pub instructions_here : (legend : Legend) (core : Core) (m : Flat) → core ≡ m.core → instructions_shown legend 10 (pc_of core) m ≡ disassembled_here legend m
 unfolding disassembled_here
-instructions_here symbols core m e = ap (λ (z : Core). instructions_shown symbols 10 (pc_of z) m) e
+instructions_here legend core m e = ap (λ (z : Core). instructions_shown legend 10 (pc_of z) m) e
 
-pub frames_here : (symbols : List Symbol) (f : Frame) (core : Core) (m : Flat) → f ≡ innermost core → core ≡ m.core → frames_from symbols 64 0 f m ≡ frames_shown symbols m
+pub frames_here : (legend : Legend) (f : Frame) (core : Core) (m : Flat) → f ≡ innermost core → core ≡ m.core → frames_from legend 64 0 f m ≡ frames_shown legend m
 unfolding frames_shown
-frames_here symbols f core m is e =
-    ap (λ (z : Frame). frames_from symbols 64 0 z m) is ∙ ap (λ (z : Core). frames_from symbols 64 0 (innermost z) m) e
+frames_here legend f core m is e =
+    ap (λ (z : Frame). frames_from legend 64 0 z m) is ∙ ap (λ (z : Core). frames_from legend 64 0 (innermost z) m) e
 
 -- frames
 

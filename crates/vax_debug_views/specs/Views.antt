@@ -9,11 +9,12 @@ use Rattle.vax_debug.specs.Travel.{fp_of, pc_of, sp_of}
 use Rattle.vax_debug_words.specs.declared.command.Form.{Form}
 use Rattle.vax_debug_words.specs.declared.command.Form.TheVariants as form
 use Rattle.vax_debug_words.specs.declared.request.Expression.{Expression}
+use Rattle.vax_debug_words.specs.declared.request.Field.{Field}
 use Rattle.vax_debug_words.specs.declared.request.Span.{Span}
-use Rattle.vax_debug_names.specs.declared.Symbol.{Symbol}
+use Rattle.vax_debug_names.specs.declared.Legend.{Legend}
 use Rattle.vax_debug_replies.specs.Frames.{frame_line}
-use Rattle.vax_debug_replies.specs.Instructions.{instruction_at, instruction_line, length_of}
-use Rattle.vax_debug_replies.specs.Status.{status_line}
+use Rattle.vax_debug_replies.specs.Instructions.{instruction_at, length_of, listed_instruction}
+use Rattle.vax_debug_replies.specs.Status.{field_line, status_line}
 use Rattle.vax_debug_replies.specs.Values.{ascii_line, value_line}
 use Rattle.vax_debug_replies.specs.declared.frames.Frame.{Frame}
 use Rattle.vax_debug.specs.Values.{evaluated}
@@ -26,6 +27,9 @@ register_shown n m = register_line n (slice_index m.core.regs n)
 abbrev pub status_shown : Flat → List ℕ
 status_shown m = status_line m.core.psl.0
 
+abbrev pub field_shown : Field → Flat → List ℕ
+field_shown f m = field_line f m.core.psl.0
+
 -- memory
 
 -- an address behind another, modulo 2^32
@@ -33,40 +37,40 @@ abbrev pub beyond : ℕ → ℕ → ℕ
 beyond address count = (address + count) % 2 ^ 32
 
 -- so many values of a size, one behind the other, a line for each
-unfoldable pub values_shown : List Symbol → (size count address : ℕ) → Flat → List ℕ
-values_shown symbols size zero address m = []
-values_shown symbols size (suc count) address m =
-    value_line symbols address (memory_from m.memory address size) ++ values_shown symbols size count (beyond address size) m
+unfoldable pub values_shown : Legend → (size count address : ℕ) → Flat → List ℕ
+values_shown legend size zero address m = []
+values_shown legend size (suc count) address m =
+    value_line legend address (memory_from m.memory address size) ++ values_shown legend size count (beyond address size) m
 
 -- so many characters in one line
-abbrev pub characters_shown : List Symbol → (count address : ℕ) → Flat → List ℕ
-characters_shown symbols count address m = ascii_line symbols address (memory_from m.memory address count)
+abbrev pub characters_shown : Legend → (count address : ℕ) → Flat → List ℕ
+characters_shown legend count address m = ascii_line legend address (memory_from m.memory address count)
 
 -- an instruction is looked for in this many bytes
 abbrev pub bytes_at : (address : ℕ) → Flat → List (Option ℕ)
 bytes_at address m = memory_from m.memory address 64
 
-abbrev pub instruction_shown : List Symbol → (address : ℕ) → Flat → List ℕ
-instruction_shown symbols address m = instruction_line symbols address (bytes_at address m)
+abbrev pub instruction_shown : Legend → (address : ℕ) → Flat → List ℕ
+instruction_shown legend address m = listed_instruction legend address (bytes_at address m)
 
 -- behind the instruction at an address, or the byte there where none begins
 abbrev pub behind_instruction : (address : ℕ) → Flat → ℕ
 behind_instruction address m = beyond address (length_of (instruction_at address (bytes_at address m)))
 
 -- so many instructions, one behind the other
-unfoldable pub instructions_shown : List Symbol → (count address : ℕ) → Flat → List ℕ
-instructions_shown symbols zero address m = []
-instructions_shown symbols (suc count) address m =
-    instruction_shown symbols address m ++ instructions_shown symbols count (behind_instruction address m) m
+unfoldable pub instructions_shown : Legend → (count address : ℕ) → Flat → List ℕ
+instructions_shown legend zero address m = []
+instructions_shown legend (suc count) address m =
+    instruction_shown legend address m ++ instructions_shown legend count (behind_instruction address m) m
 
 -- so many values of a form from an address on
-unfoldable pub memory_at_shown : List Symbol → Form → (count address : ℕ) → Flat → List ℕ
-memory_at_shown symbols form.Byte count address m = values_shown symbols 1 count address m
-memory_at_shown symbols form.Word count address m = values_shown symbols 2 count address m
-memory_at_shown symbols form.Long count address m = values_shown symbols 4 count address m
-memory_at_shown symbols form.Quad count address m = values_shown symbols 8 count address m
-memory_at_shown symbols form.Ascii count address m = characters_shown symbols count address m
-memory_at_shown symbols form.Instruction count address m = instructions_shown symbols count address m
+unfoldable pub memory_at_shown : Legend → Form → (count address : ℕ) → Flat → List ℕ
+memory_at_shown legend form.Byte count address m = values_shown legend 1 count address m
+memory_at_shown legend form.Word count address m = values_shown legend 2 count address m
+memory_at_shown legend form.Long count address m = values_shown legend 4 count address m
+memory_at_shown legend form.Quad count address m = values_shown legend 8 count address m
+memory_at_shown legend form.Ascii count address m = characters_shown legend count address m
+memory_at_shown legend form.Instruction count address m = instructions_shown legend count address m
 
 -- in place of what an expression leads to, where it leads nowhere
 abbrev pub nowhere_line : List ℕ
@@ -77,19 +81,19 @@ abbrev pub of_value : (ℕ → List ℕ) → Option ℕ → List ℕ
 of_value told None = nowhere_line
 of_value told (Some address) = told address
 
-unfoldable pub memory_shown : List Symbol → Form → Span → Flat → List ℕ
-memory_shown symbols f at m = of_value (λ address. memory_at_shown symbols f at.count address m) (evaluated symbols at.from m)
+unfoldable pub memory_shown : Legend → Form → Span → Flat → List ℕ
+memory_shown legend f at m = of_value (λ address. memory_at_shown legend f at.count address m) (evaluated legend at.from m)
 
-unfoldable pub disassembled : List Symbol → Span → Flat → List ℕ
-disassembled symbols at m = of_value (λ address. instructions_shown symbols at.count address m) (evaluated symbols at.from m)
+unfoldable pub disassembled : Legend → Span → Flat → List ℕ
+disassembled legend at m = of_value (λ address. instructions_shown legend at.count address m) (evaluated legend at.from m)
 
 -- ten instructions from PC on
-unfoldable pub disassembled_here : List Symbol → Flat → List ℕ
-disassembled_here symbols m = instructions_shown symbols 10 (pc_of m.core) m
+unfoldable pub disassembled_here : Legend → Flat → List ℕ
+disassembled_here legend m = instructions_shown legend 10 (pc_of m.core) m
 
 -- so many longwords from the stack pointer on
-unfoldable pub stack_shown : List Symbol → (count : ℕ) → Flat → List ℕ
-stack_shown symbols count m = values_shown symbols 4 count (sp_of m.core) m
+unfoldable pub stack_shown : Legend → (count : ℕ) → Flat → List ℕ
+stack_shown legend count m = values_shown legend 4 count (sp_of m.core) m
 
 -- frames of calls
 
@@ -115,14 +119,14 @@ unfoldable pub caller : Frame → Flat → Option Frame
 caller frame m = if frame.fp == 0 then None else frame_of (saved 16 frame m) (saved 8 frame m) (saved 12 frame m)
 
 -- at most so many frames, with numbers from this one on
-unfoldable pub frames_from : List Symbol → (count number : ℕ) → Frame → Flat → List ℕ
-frames_from symbols zero number frame m = []
-frames_from symbols (suc count) number frame m =
-    frame_line symbols number frame ++ if_any (λ next. frames_from symbols count (number + 1) next m) (caller frame m)
+unfoldable pub frames_from : Legend → (count number : ℕ) → Frame → Flat → List ℕ
+frames_from legend zero number frame m = []
+frames_from legend (suc count) number frame m =
+    frame_line legend number frame ++ if_any (λ next. frames_from legend count (number + 1) next m) (caller frame m)
 
 -- the frames of calls, the innermost first, at most 64
-unfoldable pub frames_shown : List Symbol → Flat → List ℕ
-frames_shown symbols m = frames_from symbols 64 0 (innermost m.core) m
+unfoldable pub frames_shown : Legend → Flat → List ℕ
+frames_shown legend m = frames_from legend 64 0 (innermost m.core) m
 
 -- queues
 
@@ -136,12 +140,12 @@ abbrev pub next_entry : (head entry : ℕ) → Flat → Option ℕ
 next_entry head entry m = unless_head head (longword_at m entry)
 
 -- at most so many entries, each with its forward link
-unfoldable pub entries_from : List Symbol → (head count entry : ℕ) → Flat → List ℕ
-entries_from symbols head zero entry m = []
-entries_from symbols head (suc count) entry m =
-    value_line symbols entry (memory_from m.memory entry 4)
-    ++ if_any (λ next. entries_from symbols head count next m) (next_entry head entry m)
+unfoldable pub entries_from : Legend → (head count entry : ℕ) → Flat → List ℕ
+entries_from legend head zero entry m = []
+entries_from legend head (suc count) entry m =
+    value_line legend entry (memory_from m.memory entry 4)
+    ++ if_any (λ next. entries_from legend head count next m) (next_entry head entry m)
 
 -- a queue by its forward links, from its head on, at most 64 entries
-unfoldable pub queue_shown : List Symbol → Expression → Flat → List ℕ
-queue_shown symbols at m = of_value (λ head. entries_from symbols head 64 head m) (evaluated symbols at m)
+unfoldable pub queue_shown : Legend → Expression → Flat → List ℕ
+queue_shown legend at m = of_value (λ head. entries_from legend head 64 head m) (evaluated legend at m)

@@ -14,7 +14,7 @@ ghost use Rattle.vax_debug_views.specs.Views.{caller, frame_of, frames_from, fra
 
 use crate::replying::reply;
 use vax_debug::{Failure, longword};
-use vax_debug_names::Symbol;
+use vax_debug_names::Legend;
 use vax_debug_replies::{Frame, push_frame};
 use vax_machine::Machine;
 use vax_outside::{PageFile, Sink, Text};
@@ -113,23 +113,23 @@ fn caller<F: PageFile>(
 fn reply_frame<K: Sink>(
     number: u8,
     frame: Frame,
-    symbols: &[Symbol],
+    legend: &Legend,
     sink: &mut K,
 ) -> Result<(), Failure>
     ensures replied { Replied result (K.contents sink.old) (K.contents sink.new)
-        (frame_line symbols.now number frame) }
+        (frame_line legend.now number frame) }
     ensures counts { (file : Failures) →
         Counts result file file (K.faults sink.old) (K.faults sink.new) }
 {
     let mut text = Text::new();
-    push_frame(&mut text, symbols, number, frame);
+    push_frame(&mut text, legend, number, frame);
     reply(text.as_slice(), sink)
 }
 
 /// Replies with at most 64 frames from this one on.
 fn show_frames_from<F: PageFile, K: Sink>(
     frame: Frame,
-    symbols: &[Symbol],
+    legend: &Legend,
     machine: &mut Machine,
     file: &mut F,
     sink: &mut K,
@@ -137,13 +137,13 @@ fn show_frames_from<F: PageFile, K: Sink>(
     ensures shows { Shows
         (scene (engine machine.old) (F.contents file.old) (K.contents sink.old))
         (scene (engine machine.new) (F.contents file.new) (K.contents sink.new))
-        result (frames_from symbols.now 64 0 frame) }
+        result (frames_from legend.now 64 0 frame) }
     ensures counts { Counts result (F.faults file.old) (F.faults file.new) (K.faults sink.old)
         (K.faults sink.new) }
 {
     let mut frame = frame;
     for number in 0..MOST {
-        match reply_frame(number, frame, symbols, sink) {
+        match reply_frame(number, frame, legend, sink) {
             Ok(()) => {}
             Err(failure) => return Err(failure),
         }
@@ -159,7 +159,7 @@ fn show_frames_from<F: PageFile, K: Sink>(
 /// Replies with the frames of calls, the innermost first: the procedure that runs, and then where each frame goes back to. It ends behind a frame pointer 0, at
 /// a frame whose longwords memory hasn't whole, and after 64 frames.
 pub fn show_frames<F: PageFile, K: Sink>(
-    symbols: &[Symbol],
+    legend: &Legend,
     machine: &mut Machine,
     file: &mut F,
     sink: &mut K,
@@ -167,10 +167,10 @@ pub fn show_frames<F: PageFile, K: Sink>(
     ensures shows { Shows
         (scene (engine machine.old) (F.contents file.old) (K.contents sink.old))
         (scene (engine machine.new) (F.contents file.new) (K.contents sink.new))
-        result (frames_shown symbols.now) }
+        result (frames_shown legend.now) }
     ensures counts { Counts result (F.faults file.old) (F.faults file.new) (K.faults sink.old)
         (K.faults sink.new) }
 {
     let frame = innermost(machine.core());
-    show_frames_from(frame, symbols, machine, file, sink)
+    show_frames_from(frame, legend, machine, file, sink)
 }

@@ -8,14 +8,14 @@ ghost use Rattle.vax_console.specs.Ends.{scene};
 ghost use Rattle.vax_debug.specs.Calls.{TellsFrom};
 ghost use Rattle.vax_debug.specs.Sessions.{Counts, StaysHere};
 ghost use Rattle.vax_debug_words.specs.Requests.{IsSpan};
-ghost use Rattle.vax_debug_replies.specs.Instructions.{instruction_line};
+ghost use Rattle.vax_debug_replies.specs.Instructions.{listed_instruction};
 ghost use Rattle.vax_debug_views.specs.Showing.{Replied, Shows};
 ghost use Rattle.vax_debug_views.specs.Views.{behind_instruction, disassembled, disassembled_here, instruction_shown, instructions_shown};
 
 use crate::replying::{reply, reply_nowhere};
 use vax_debug::{Failure, evaluate, examine};
-use vax_debug_names::Symbol;
-use vax_debug_replies::{push_instruction_line, span_of};
+use vax_debug_names::Legend;
+use vax_debug_replies::{push_listed_instruction, span_of};
 use vax_debug_words::Span;
 use vax_machine::Machine;
 use vax_outside::{PageFile, Sink, Text};
@@ -27,28 +27,28 @@ const BYTES: usize = 64;
 /// How many instructions are shown where that isn't said.
 const USUAL: u8 = 10;
 
-/// Replies with the instruction that cells begin with, which lie at an address.
+/// Replies with the instruction that cells begin with, which lie at an address, and with the statement that it came from before it.
 fn reply_instruction<K: Sink>(
     cells: &[Option<u8>],
     address: u32,
-    symbols: &[Symbol],
+    legend: &Legend,
     sink: &mut K,
 ) -> Result<(), Failure>
     requires { length cells.now ≤ 64 }
     ensures replied { Replied result (K.contents sink.old) (K.contents sink.new)
-        (instruction_line symbols.now address cells.now) }
+        (listed_instruction legend.now address cells.now) }
     ensures counts { (file : Failures) →
         Counts result file file (K.faults sink.old) (K.faults sink.new) }
 {
     let mut text = Text::new();
-    push_instruction_line(&mut text, symbols, address, cells);
+    push_listed_instruction(&mut text, legend, address, cells);
     reply(text.as_slice(), sink)
 }
 
 /// Replies with the instruction at an address.
 fn show_instruction<F: PageFile, K: Sink>(
     address: u32,
-    symbols: &[Symbol],
+    legend: &Legend,
     machine: &mut Machine,
     file: &mut F,
     sink: &mut K,
@@ -56,13 +56,13 @@ fn show_instruction<F: PageFile, K: Sink>(
     ensures shows { Shows
         (scene (engine machine.old) (F.contents file.old) (K.contents sink.old))
         (scene (engine machine.new) (F.contents file.new) (K.contents sink.new))
-        result (instruction_shown symbols.now address) }
+        result (instruction_shown legend.now address) }
     ensures counts { Counts result (F.faults file.old) (F.faults file.new) (K.faults sink.old)
         (K.faults sink.new) }
 {
     let mut cells = [None; BYTES];
     match examine(address, &mut cells, machine, file) {
-        Ok(()) => reply_instruction(&cells, address, symbols, sink),
+        Ok(()) => reply_instruction(&cells, address, legend, sink),
         Err(_) => Err(Failure::PageFault),
     }
 }
@@ -92,7 +92,7 @@ fn behind_instruction<F: PageFile>(
 pub(crate) fn show_instructions<F: PageFile, K: Sink>(
     count: u8,
     address: u32,
-    symbols: &[Symbol],
+    legend: &Legend,
     machine: &mut Machine,
     file: &mut F,
     sink: &mut K,
@@ -100,13 +100,13 @@ pub(crate) fn show_instructions<F: PageFile, K: Sink>(
     ensures shows { Shows
         (scene (engine machine.old) (F.contents file.old) (K.contents sink.old))
         (scene (engine machine.new) (F.contents file.new) (K.contents sink.new))
-        result (instructions_shown symbols.now count address) }
+        result (instructions_shown legend.now count address) }
     ensures counts { Counts result (F.faults file.old) (F.faults file.new) (K.faults sink.old)
         (K.faults sink.new) }
 {
     let mut address = address;
     for _ in 0..count {
-        match show_instruction(address, symbols, machine, file, sink) {
+        match show_instruction(address, legend, machine, file, sink) {
             Ok(()) => {}
             Err(failure) => return Err(failure),
         }
@@ -121,7 +121,7 @@ pub(crate) fn show_instructions<F: PageFile, K: Sink>(
 /// Replies with the instructions of a span, one behind the other.
 pub fn disassemble<F: PageFile, K: Sink>(
     span: &Span,
-    symbols: &[Symbol],
+    legend: &Legend,
     machine: &mut Machine,
     file: &mut F,
     sink: &mut K,
@@ -130,12 +130,12 @@ pub fn disassemble<F: PageFile, K: Sink>(
     ensures shows { Shows
         (scene (engine machine.old) (F.contents file.old) (K.contents sink.old))
         (scene (engine machine.new) (F.contents file.new) (K.contents sink.new))
-        result (disassembled symbols.now span.now) }
+        result (disassembled legend.now span.now) }
     ensures counts { Counts result (F.faults file.old) (F.faults file.new) (K.faults sink.old)
         (K.faults sink.new) }
 {
-    match evaluate(symbols, &span.from, machine, file) {
-        Ok(Some(address)) => show_instructions(span.count, address, symbols, machine, file, sink),
+    match evaluate(legend, &span.from, machine, file) {
+        Ok(Some(address)) => show_instructions(span.count, address, legend, machine, file, sink),
         Ok(None) => reply_nowhere(sink),
         Err(_) => Err(Failure::PageFault),
     }
@@ -143,7 +143,7 @@ pub fn disassemble<F: PageFile, K: Sink>(
 
 /// Replies with ten instructions from PC on.
 pub fn disassemble_here<F: PageFile, K: Sink>(
-    symbols: &[Symbol],
+    legend: &Legend,
     machine: &mut Machine,
     file: &mut F,
     sink: &mut K,
@@ -151,10 +151,10 @@ pub fn disassemble_here<F: PageFile, K: Sink>(
     ensures shows { Shows
         (scene (engine machine.old) (F.contents file.old) (K.contents sink.old))
         (scene (engine machine.new) (F.contents file.new) (K.contents sink.new))
-        result (disassembled_here symbols.now) }
+        result (disassembled_here legend.now) }
     ensures counts { Counts result (F.faults file.old) (F.faults file.new) (K.faults sink.old)
         (K.faults sink.new) }
 {
     let address = machine.core().regs[15];
-    show_instructions(USUAL, address, symbols, machine, file, sink)
+    show_instructions(USUAL, address, legend, machine, file, sink)
 }

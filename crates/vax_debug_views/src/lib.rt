@@ -19,6 +19,6 @@ pub use crate::instructions::{disassemble, disassemble_here};
 pub use crate::memory::{show_memory, show_stack};
 pub use crate::pages::show_pages;
 pub use crate::queues::show_queue;
-pub use crate::registers::{show_register, show_status};
+pub use crate::registers::{show_field, show_register, show_status};
 pub use crate::replying::{reply, reply_nowhere, show_breaks, show_help, show_refusal};
 pub use crate::watches::show_watches;

@@ -11,7 +11,7 @@ use crate::instructions::show_instructions;
 use crate::replying::reply_nowhere;
 use crate::values::{show_characters, show_values};
 use vax_debug::{Failure, evaluate};
-use vax_debug_names::Symbol;
+use vax_debug_names::Legend;
 use vax_debug_words::{Form, Span};
 use vax_machine::Machine;
 use vax_outside::{PageFile, Sink};
@@ -22,7 +22,7 @@ fn show_memory_at<F: PageFile, K: Sink>(
     form: Form,
     count: u8,
     address: u32,
-    symbols: &[Symbol],
+    legend: &Legend,
     machine: &mut Machine,
     file: &mut F,
     sink: &mut K,
@@ -31,17 +31,17 @@ fn show_memory_at<F: PageFile, K: Sink>(
     ensures shows { Shows
         (scene (engine machine.old) (F.contents file.old) (K.contents sink.old))
         (scene (engine machine.new) (F.contents file.new) (K.contents sink.new))
-        result (memory_at_shown symbols.now form count address) }
+        result (memory_at_shown legend.now form count address) }
     ensures counts { Counts result (F.faults file.old) (F.faults file.new) (K.faults sink.old)
         (K.faults sink.new) }
 {
     match form {
-        Form::Byte => show_values(1, count, address, symbols, machine, file, sink),
-        Form::Word => show_values(2, count, address, symbols, machine, file, sink),
-        Form::Long => show_values(4, count, address, symbols, machine, file, sink),
-        Form::Quad => show_values(8, count, address, symbols, machine, file, sink),
-        Form::Ascii => show_characters(count, address, symbols, machine, file, sink),
-        Form::Instruction => show_instructions(count, address, symbols, machine, file, sink),
+        Form::Byte => show_values(1, count, address, legend, machine, file, sink),
+        Form::Word => show_values(2, count, address, legend, machine, file, sink),
+        Form::Long => show_values(4, count, address, legend, machine, file, sink),
+        Form::Quad => show_values(8, count, address, legend, machine, file, sink),
+        Form::Ascii => show_characters(count, address, legend, machine, file, sink),
+        Form::Instruction => show_instructions(count, address, legend, machine, file, sink),
     }
 }
 
@@ -50,7 +50,7 @@ fn show_memory_at<F: PageFile, K: Sink>(
 pub fn show_memory<F: PageFile, K: Sink>(
     form: Form,
     span: &Span,
-    symbols: &[Symbol],
+    legend: &Legend,
     machine: &mut Machine,
     file: &mut F,
     sink: &mut K,
@@ -59,13 +59,13 @@ pub fn show_memory<F: PageFile, K: Sink>(
     ensures shows { Shows
         (scene (engine machine.old) (F.contents file.old) (K.contents sink.old))
         (scene (engine machine.new) (F.contents file.new) (K.contents sink.new))
-        result (memory_shown symbols.now form span.now) }
+        result (memory_shown legend.now form span.now) }
     ensures counts { Counts result (F.faults file.old) (F.faults file.new) (K.faults sink.old)
         (K.faults sink.new) }
 {
-    match evaluate(symbols, &span.from, machine, file) {
+    match evaluate(legend, &span.from, machine, file) {
         Ok(Some(address)) => {
-            show_memory_at(form, span.count, address, symbols, machine, file, sink)
+            show_memory_at(form, span.count, address, legend, machine, file, sink)
         }
         Ok(None) => reply_nowhere(sink),
         Err(_) => Err(Failure::PageFault),
@@ -75,7 +75,7 @@ pub fn show_memory<F: PageFile, K: Sink>(
 /// Replies with so many longwords from the stack pointer on.
 pub fn show_stack<F: PageFile, K: Sink>(
     count: u8,
-    symbols: &[Symbol],
+    legend: &Legend,
     machine: &mut Machine,
     file: &mut F,
     sink: &mut K,
@@ -83,10 +83,10 @@ pub fn show_stack<F: PageFile, K: Sink>(
     ensures shows { Shows
         (scene (engine machine.old) (F.contents file.old) (K.contents sink.old))
         (scene (engine machine.new) (F.contents file.new) (K.contents sink.new))
-        result (stack_shown symbols.now count) }
+        result (stack_shown legend.now count) }
     ensures counts { Counts result (F.faults file.old) (F.faults file.new) (K.faults sink.old)
         (K.faults sink.new) }
 {
     let address = machine.core().regs[14];
-    show_values(4, count, address, symbols, machine, file, sink)
+    show_values(4, count, address, legend, machine, file, sink)
 }

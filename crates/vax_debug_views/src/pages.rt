@@ -12,7 +12,7 @@ ghost use Rattle.vax_debug_views.specs.Pages.{area_shown, page_shown, pages_show
 ghost use Rattle.vax_debug_views.specs.Showing.{Replied};
 
 use vax_debug::Failure;
-use vax_debug_names::Symbol;
+use vax_debug_names::Legend;
 use vax_debug_replies::{PageState, push_frames_line, push_page_line};
 use vax_machine::Machine;
 use vax_outside::{Chan, Failed, Sink, Text, put_all};
@@ -40,22 +40,22 @@ fn state_of(page: u32, machine: &Machine) -> Option<PageState>
 
 /// Writes the line of a page, if it has a frame.
 fn write_page<K: Sink>(
-    symbols: &[Symbol],
+    legend: &Legend,
     page: u32,
     machine: &Machine,
     sink: &mut K,
 ) -> Result<(), Failed>
     ensures ok { OnOk result (Grew (K.contents sink.old) (K.contents sink.new)
-        (only Chan.Report (page_shown symbols.now (pages_at (engine machine.now)) page))) }
+        (only Chan.Report (page_shown legend.now (pages_at (engine machine.now)) page))) }
     ensures prefix { OnErr result (GrewByPrefix (K.contents sink.old) (K.contents sink.new)
-        (only Chan.Report (page_shown symbols.now (pages_at (engine machine.now)) page))) }
+        (only Chan.Report (page_shown legend.now (pages_at (engine machine.now)) page))) }
     ensures counts { CountsFailure (is_err result) (K.faults sink.old) (K.faults sink.new) }
 {
     match state_of(page, machine) {
         None => Ok(()),
         Some(state) => {
             let mut text = Text::new();
-            push_page_line(&mut text, symbols, page.wrapping_mul(PAGE_BYTES), state);
+            push_page_line(&mut text, legend, page.wrapping_mul(PAGE_BYTES), state);
             put_all(sink, Chan::Report, text.as_slice())
         }
     }
@@ -63,40 +63,40 @@ fn write_page<K: Sink>(
 
 /// Writes the lines of an area's pages.
 fn write_area<K: Sink>(
-    symbols: &[Symbol],
+    legend: &Legend,
     area: &Area,
     machine: &Machine,
     sink: &mut K,
 ) -> Result<(), Failed>
     ensures ok { OnOk result (Grew (K.contents sink.old) (K.contents sink.new)
-        (only Chan.Report (area_shown symbols.now (pages_at (engine machine.now)) area.now))) }
+        (only Chan.Report (area_shown legend.now (pages_at (engine machine.now)) area.now))) }
     ensures prefix { OnErr result (GrewByPrefix (K.contents sink.old) (K.contents sink.new)
-        (only Chan.Report (area_shown symbols.now (pages_at (engine machine.now)) area.now))) }
+        (only Chan.Report (area_shown legend.now (pages_at (engine machine.now)) area.now))) }
     ensures counts { CountsFailure (is_err result) (K.faults sink.old) (K.faults sink.new) }
 {
     for k in 0..area.pages {
-        write_page(symbols, area.first.wrapping_add(k), machine, sink)?;
+        write_page(legend, area.first.wrapping_add(k), machine, sink)?;
     }
     Ok(())
 }
 
 /// Writes the lines of the pages of areas.
 fn write_areas<K: Sink>(
-    symbols: &[Symbol],
+    legend: &Legend,
     areas: &[Area],
     machine: &Machine,
     sink: &mut K,
 ) -> Result<(), Failed>
     ensures ok { OnOk result (Grew (K.contents sink.old) (K.contents sink.new)
         (only Chan.Report
-        (flat_map (area_shown symbols.now (pages_at (engine machine.now))) areas.now))) }
+        (flat_map (area_shown legend.now (pages_at (engine machine.now))) areas.now))) }
     ensures prefix { OnErr result (GrewByPrefix (K.contents sink.old) (K.contents sink.new)
         (only Chan.Report
-        (flat_map (area_shown symbols.now (pages_at (engine machine.now))) areas.now))) }
+        (flat_map (area_shown legend.now (pages_at (engine machine.now))) areas.now))) }
     ensures counts { CountsFailure (is_err result) (K.faults sink.old) (K.faults sink.new) }
 {
     for area in areas {
-        write_area(symbols, area, machine, sink)?;
+        write_area(legend, area, machine, sink)?;
     }
     Ok(())
 }
@@ -116,30 +116,26 @@ fn write_frames<K: Sink>(machine: &Machine, sink: &mut K) -> Result<(), Failed>
 
 /// Writes how many pages may be resident, and the lines of all pages that have a frame.
 #[tactic(auto, unfolding(crate::specs::Pages::pages_shown))]
-fn write_pages<K: Sink>(symbols: &[Symbol], machine: &Machine, sink: &mut K) -> Result<(), Failed>
+fn write_pages<K: Sink>(legend: &Legend, machine: &Machine, sink: &mut K) -> Result<(), Failed>
     ensures ok { OnOk result (Grew (K.contents sink.old) (K.contents sink.new)
-        (only Chan.Report (pages_shown symbols.now (pages_at (engine machine.now))))) }
+        (only Chan.Report (pages_shown legend.now (pages_at (engine machine.now))))) }
     ensures prefix { OnErr result (GrewByPrefix (K.contents sink.old) (K.contents sink.new)
-        (only Chan.Report (pages_shown symbols.now (pages_at (engine machine.now))))) }
+        (only Chan.Report (pages_shown legend.now (pages_at (engine machine.now))))) }
     ensures counts { CountsFailure (is_err result) (K.faults sink.old) (K.faults sink.new) }
 {
     write_frames(machine, sink)?;
-    write_areas(symbols, machine.space().areas(), machine, sink)
+    write_areas(legend, machine.space().areas(), machine, sink)
 }
 
 /// Replies which pages of the machine's memory are resident, which of these are modified, and which absent ones are kept, in ascending order. The machine isn't
 /// changed.
-pub fn show_pages<K: Sink>(
-    symbols: &[Symbol],
-    machine: &Machine,
-    sink: &mut K,
-) -> Result<(), Failure>
+pub fn show_pages<K: Sink>(legend: &Legend, machine: &Machine, sink: &mut K) -> Result<(), Failure>
     ensures replied { Replied result (K.contents sink.old) (K.contents sink.new)
-        (pages_shown symbols.now (pages_at (engine machine.now))) }
+        (pages_shown legend.now (pages_at (engine machine.now))) }
     ensures counts { (file : Failures) →
         Counts result file file (K.faults sink.old) (K.faults sink.new) }
 {
-    match write_pages(symbols, machine, sink) {
+    match write_pages(legend, machine, sink) {
         Ok(()) => Ok(()),
         Err(Failed) => Err(Failure::WriteFault),
     }

@@ -13,7 +13,7 @@ ghost use Rattle.vax_debug_views.specs.Views.{entries_from, next_entry, queue_sh
 use crate::replying::reply_nowhere;
 use crate::values::show_value;
 use vax_debug::{Failure, evaluate, longword};
-use vax_debug_names::Symbol;
+use vax_debug_names::Legend;
 use vax_debug_words::Expression;
 use vax_machine::Machine;
 use vax_outside::{PageFile, Sink};
@@ -56,7 +56,7 @@ fn next_entry<F: PageFile>(
 /// Replies with at most 64 entries of the queue with this head.
 fn show_entries<F: PageFile, K: Sink>(
     head: u32,
-    symbols: &[Symbol],
+    legend: &Legend,
     machine: &mut Machine,
     file: &mut F,
     sink: &mut K,
@@ -64,13 +64,13 @@ fn show_entries<F: PageFile, K: Sink>(
     ensures shows { Shows
         (scene (engine machine.old) (F.contents file.old) (K.contents sink.old))
         (scene (engine machine.new) (F.contents file.new) (K.contents sink.new))
-        result (entries_from symbols.now head 64 head) }
+        result (entries_from legend.now head 64 head) }
     ensures counts { Counts result (F.faults file.old) (F.faults file.new) (K.faults sink.old)
         (K.faults sink.new) }
 {
     let mut entry = head;
     for _ in 0..MOST {
-        match show_value(4, entry, symbols, machine, file, sink) {
+        match show_value(4, entry, legend, machine, file, sink) {
             Ok(()) => {}
             Err(failure) => return Err(failure),
         }
@@ -87,7 +87,7 @@ fn show_entries<F: PageFile, K: Sink>(
 /// memory hasn't whole, and after 64 entries.
 pub fn show_queue<F: PageFile, K: Sink>(
     head: &Expression,
-    symbols: &[Symbol],
+    legend: &Legend,
     machine: &mut Machine,
     file: &mut F,
     sink: &mut K,
@@ -96,12 +96,12 @@ pub fn show_queue<F: PageFile, K: Sink>(
     ensures shows { Shows
         (scene (engine machine.old) (F.contents file.old) (K.contents sink.old))
         (scene (engine machine.new) (F.contents file.new) (K.contents sink.new))
-        result (queue_shown symbols.now head.now) }
+        result (queue_shown legend.now head.now) }
     ensures counts { Counts result (F.faults file.old) (F.faults file.new) (K.faults sink.old)
         (K.faults sink.new) }
 {
-    match evaluate(symbols, head, machine, file) {
-        Ok(Some(head)) => show_entries(head, symbols, machine, file, sink),
+    match evaluate(legend, head, machine, file) {
+        Ok(Some(head)) => show_entries(head, legend, machine, file, sink),
         Ok(None) => reply_nowhere(sink),
         Err(_) => Err(Failure::PageFault),
     }

@@ -7,7 +7,7 @@ ghost use Rattle.vax_debug_views.specs.Showing.{Replied};
 ghost use Rattle.vax_debug_views.specs.Views.{nowhere_line};
 
 use vax_debug::{Breaks, Failure};
-use vax_debug_names::Symbol;
+use vax_debug_names::Legend;
 use vax_debug_replies::{write_breaks, write_help, write_refusal};
 use vax_debug_words::{Command, Refusal};
 use vax_outside::{Chan, Failed, Sink, put_all};
@@ -34,17 +34,13 @@ pub fn reply_nowhere<K: Sink>(sink: &mut K) -> Result<(), Failure>
 }
 
 /// Replies with the addresses at which steps stop, or that there is none.
-pub fn show_breaks<K: Sink>(
-    symbols: &[Symbol],
-    breaks: &Breaks,
-    sink: &mut K,
-) -> Result<(), Failure>
+pub fn show_breaks<K: Sink>(legend: &Legend, breaks: &Breaks, sink: &mut K) -> Result<(), Failure>
     ensures replied { Replied result (K.contents sink.old) (K.contents sink.new)
-        (breaks_shown symbols.now breaks.now) }
+        (breaks_shown legend.now breaks.now) }
     ensures counts { (file : Failures) →
         Counts result file file (K.faults sink.old) (K.faults sink.new) }
 {
-    match write_breaks(symbols, breaks.as_slice(), sink) {
+    match write_breaks(legend, breaks.as_slice(), sink) {
         Ok(()) => Ok(()),
         Err(Failed) => Err(Failure::WriteFault),
     }

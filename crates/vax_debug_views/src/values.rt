@@ -12,7 +12,7 @@ ghost use Rattle.vax_debug_views.specs.Views.{characters_shown, values_shown};
 
 use crate::replying::reply;
 use vax_debug::{Failure, examine};
-use vax_debug_names::Symbol;
+use vax_debug_names::Legend;
 use vax_debug_replies::{push_ascii_line, push_value_line};
 use vax_machine::Machine;
 use vax_outside::{PageFile, Sink, Text};
@@ -21,17 +21,17 @@ use vax_outside::{PageFile, Sink, Text};
 fn reply_value<K: Sink>(
     cells: &mut [Option<u8>],
     address: u32,
-    symbols: &[Symbol],
+    legend: &Legend,
     sink: &mut K,
 ) -> Result<(), Failure>
     requires { length cells.old ≤ 8 }
     ensures replied { Replied result (K.contents sink.old) (K.contents sink.new)
-        (value_line symbols.now address cells.old) }
+        (value_line legend.now address cells.old) }
     ensures counts { (file : Failures) →
         Counts result file file (K.faults sink.old) (K.faults sink.new) }
 {
     let mut text = Text::new();
-    push_value_line(&mut text, symbols, address, cells);
+    push_value_line(&mut text, legend, address, cells);
     reply(text.as_slice(), sink)
 }
 
@@ -39,7 +39,7 @@ fn reply_value<K: Sink>(
 pub(crate) fn show_value<F: PageFile, K: Sink>(
     size: u8,
     address: u32,
-    symbols: &[Symbol],
+    legend: &Legend,
     machine: &mut Machine,
     file: &mut F,
     sink: &mut K,
@@ -48,14 +48,14 @@ pub(crate) fn show_value<F: PageFile, K: Sink>(
     ensures shows { Shows
         (scene (engine machine.old) (F.contents file.old) (K.contents sink.old))
         (scene (engine machine.new) (F.contents file.new) (K.contents sink.new))
-        result (λ (m : Flat). value_line symbols.now address (memory_from m.memory address size)) }
+        result (λ (m : Flat). value_line legend.now address (memory_from m.memory address size)) }
     ensures counts { Counts result (F.faults file.old) (F.faults file.new) (K.faults sink.old)
         (K.faults sink.new) }
 {
     let mut cells = [None; 8];
     let cells = &mut cells[..size as usize];
     match examine(address, cells, machine, file) {
-        Ok(()) => reply_value(cells, address, symbols, sink),
+        Ok(()) => reply_value(cells, address, legend, sink),
         Err(_) => Err(Failure::PageFault),
     }
 }
@@ -65,7 +65,7 @@ pub(crate) fn show_values<F: PageFile, K: Sink>(
     size: u8,
     count: u8,
     address: u32,
-    symbols: &[Symbol],
+    legend: &Legend,
     machine: &mut Machine,
     file: &mut F,
     sink: &mut K,
@@ -74,13 +74,13 @@ pub(crate) fn show_values<F: PageFile, K: Sink>(
     ensures shows { Shows
         (scene (engine machine.old) (F.contents file.old) (K.contents sink.old))
         (scene (engine machine.new) (F.contents file.new) (K.contents sink.new))
-        result (values_shown symbols.now size count address) }
+        result (values_shown legend.now size count address) }
     ensures counts { Counts result (F.faults file.old) (F.faults file.new) (K.faults sink.old)
         (K.faults sink.new) }
 {
     let mut address = address;
     for _ in 0..count {
-        match show_value(size, address, symbols, machine, file, sink) {
+        match show_value(size, address, legend, machine, file, sink) {
             Ok(()) => {}
             Err(failure) => return Err(failure),
         }
@@ -93,17 +93,17 @@ pub(crate) fn show_values<F: PageFile, K: Sink>(
 fn reply_characters<K: Sink>(
     cells: &[Option<u8>],
     address: u32,
-    symbols: &[Symbol],
+    legend: &Legend,
     sink: &mut K,
 ) -> Result<(), Failure>
     requires { length cells.now ≤ 64 }
     ensures replied { Replied result (K.contents sink.old) (K.contents sink.new)
-        (ascii_line symbols.now address cells.now) }
+        (ascii_line legend.now address cells.now) }
     ensures counts { (file : Failures) →
         Counts result file file (K.faults sink.old) (K.faults sink.new) }
 {
     let mut text = Text::new();
-    push_ascii_line(&mut text, symbols, address, cells);
+    push_ascii_line(&mut text, legend, address, cells);
     reply(text.as_slice(), sink)
 }
 
@@ -111,7 +111,7 @@ fn reply_characters<K: Sink>(
 pub(crate) fn show_characters<F: PageFile, K: Sink>(
     count: u8,
     address: u32,
-    symbols: &[Symbol],
+    legend: &Legend,
     machine: &mut Machine,
     file: &mut F,
     sink: &mut K,
@@ -120,14 +120,14 @@ pub(crate) fn show_characters<F: PageFile, K: Sink>(
     ensures shows { Shows
         (scene (engine machine.old) (F.contents file.old) (K.contents sink.old))
         (scene (engine machine.new) (F.contents file.new) (K.contents sink.new))
-        result (characters_shown symbols.now count address) }
+        result (characters_shown legend.now count address) }
     ensures counts { Counts result (F.faults file.old) (F.faults file.new) (K.faults sink.old)
         (K.faults sink.new) }
 {
     let mut cells = [None; 64];
     let cells = &mut cells[..count as usize];
     match examine(address, cells, machine, file) {
-        Ok(()) => reply_characters(cells, address, symbols, sink),
+        Ok(()) => reply_characters(cells, address, legend, sink),
         Err(_) => Err(Failure::PageFault),
     }
 }

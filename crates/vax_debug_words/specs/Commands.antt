@@ -37,6 +37,7 @@ name_of command.Queue = codes "QUEUE"
 name_of command.Pages = codes "PAGES"
 name_of command.Turn = codes "TURN"
 name_of command.Evict = codes "EVICT"
+name_of command.Restart = codes "RESTART"
 name_of command.Save = codes "SAVE"
 name_of command.Help = codes "HELP"
 name_of command.Quit = codes "QUIT"
@@ -45,7 +46,7 @@ unfoldable pub commands : List Command
 commands =
     command.Examine ∷ command.Deposit ∷ command.Disassemble ∷ command.Step ∷ command.Over ∷ command.Out
     ∷ command.Go ∷ command.Until ∷ command.Break ∷ command.Watch ∷ command.Clear ∷ command.Show
-    ∷ command.Where ∷ command.Stack ∷ command.Queue ∷ command.Pages ∷ command.Turn ∷ command.Evict ∷ command.Save ∷ command.Help ∷ command.Quit ∷ []
+    ∷ command.Where ∷ command.Stack ∷ command.Queue ∷ command.Pages ∷ command.Turn ∷ command.Evict ∷ command.Restart ∷ command.Save ∷ command.Help ∷ command.Quit ∷ []
 
 -- the commands whose names a word begins
 abbrev pub candidates : Text → List Command
@@ -72,7 +73,7 @@ form_of word =
 
 -- how each is used
 unfoldable pub usage_of : Command → Text
-usage_of command.Examine = codes "EXAMINE[/FORM] x [n]     shows a register, PSL or n values in memory"
+usage_of command.Examine = codes "EXAMINE[/FORM] x [n]     shows a register, PSL, PSL.FIELD or n values in memory"
 usage_of command.Deposit = codes "DEPOSIT[/FORM] x v       puts a value into a register, PSL, PSL.FIELD or memory"
 usage_of command.Disassemble = codes "DISASSEMBLE [x [n]]      shows n instructions from x or PC on"
 usage_of command.Step = codes "STEP [n]                 makes n steps"
@@ -90,6 +91,7 @@ usage_of command.Queue = codes "QUEUE x                  follows a queue"
 usage_of command.Pages = codes "PAGES                    shows which pages are resident, kept and modified"
 usage_of command.Turn = codes "TURN                     makes one attempt at a step"
 usage_of command.Evict = codes "EVICT x, EVICT ALL       makes a page absent, or all pages"
+usage_of command.Restart = codes "RESTART                  begins the program anew"
 usage_of command.Save = codes "SAVE                     puts the state into the record, and ends"
 usage_of command.Help = codes "HELP [word]              tells how commands are used"
 usage_of command.Quit = codes "QUIT                     ends"

@@ -66,11 +66,34 @@ form_or_long (Some f) = f
 abbrev pub one_shown : Form → Text → Option Request
 one_shown f what = memory_shown f (span (expression what) (Some 1))
 
+-- the fields of the status, as EXAMINE PSL names them
+unfoldable pub field_of : Text → Option Field
+field_of w =
+    if is_called (codes "PSL.MODE") w then Some field.Mode
+    else if is_called (codes "PSL.PREVIOUS") w then Some field.Previous
+    else if is_called (codes "PSL.IPL") w then Some field.Priority
+    else if is_called (codes "PSL.IS") w then Some field.InterruptStack
+    else if is_called (codes "PSL.FPD") w then Some field.FirstPartDone
+    else if is_called (codes "PSL.TP") w then Some field.TracePending
+    else if is_called (codes "PSL.DV") w then Some field.DecimalOverflow
+    else if is_called (codes "PSL.FU") w then Some field.FloatingUnderflow
+    else if is_called (codes "PSL.IV") w then Some field.IntegerOverflow
+    else if is_called (codes "PSL.T") w then Some field.Trace
+    else if is_called (codes "PSL.N") w then Some field.Negative
+    else if is_called (codes "PSL.Z") w then Some field.Zero
+    else if is_called (codes "PSL.V") w then Some field.Overflow
+    else if is_called (codes "PSL.C") w then Some field.Carry
+    else None
+
+abbrev pub field_shown : Option Field → Text → Option Request
+field_shown (Some f) what = Some (request.ExamineField f)
+field_shown None what = one_shown form.Long what
+
 abbrev pub shown_by : Option ℕ → Text → Option Request
 shown_by (Some n) what = Some (request.ExamineRegister n)
-shown_by None what = if is_called (codes "PSL") what then Some request.ExamineStatus else one_shown form.Long what
+shown_by None what = if is_called (codes "PSL") what then Some request.ExamineStatus else field_shown (field_of what) what
 
--- a register, the status, or one value
+-- a register, the status, one of its fields, or one value
 abbrev pub shown_at : Option Form → Text → Option Request
 shown_at None what = shown_by (register what) what
 shown_at (Some f) what = one_shown f what
@@ -107,25 +130,6 @@ value_of form.Instruction w = None
 abbrev pub memory_put : Option Expression → Option Value → Option Request
 memory_put None value = None
 memory_put (Some to) value = option_map (request.DepositMemory to) value
-
--- the fields of the status, as EXAMINE PSL names them
-unfoldable pub field_of : Text → Option Field
-field_of w =
-    if is_called (codes "PSL.MODE") w then Some field.Mode
-    else if is_called (codes "PSL.PREVIOUS") w then Some field.Previous
-    else if is_called (codes "PSL.IPL") w then Some field.Priority
-    else if is_called (codes "PSL.IS") w then Some field.InterruptStack
-    else if is_called (codes "PSL.FPD") w then Some field.FirstPartDone
-    else if is_called (codes "PSL.TP") w then Some field.TracePending
-    else if is_called (codes "PSL.DV") w then Some field.DecimalOverflow
-    else if is_called (codes "PSL.FU") w then Some field.FloatingUnderflow
-    else if is_called (codes "PSL.IV") w then Some field.IntegerOverflow
-    else if is_called (codes "PSL.T") w then Some field.Trace
-    else if is_called (codes "PSL.N") w then Some field.Negative
-    else if is_called (codes "PSL.Z") w then Some field.Zero
-    else if is_called (codes "PSL.V") w then Some field.Overflow
-    else if is_called (codes "PSL.C") w then Some field.Carry
-    else None
 
 -- the number of an access mode, where it is called by its name
 unfoldable pub mode_number : Text → Text
@@ -237,6 +241,7 @@ asked_plainly command.Queue operands = option_map request.Queue (one_expression 
 asked_plainly command.Pages operands = alone request.Pages operands
 asked_plainly command.Turn operands = alone request.Turn operands
 asked_plainly command.Evict operands = evicted operands
+asked_plainly command.Restart operands = alone request.Restart operands
 asked_plainly command.Save operands = alone request.Save operands
 asked_plainly command.Help operands = helped operands
 asked_plainly command.Quit operands = alone request.Quit operands
@@ -320,6 +325,7 @@ IsValue (value.Text cs) = (1 ≤ length cs) × (length cs ≤ 64)
 unfoldable pub IsProper : Request → Type 0
 IsProper (request.ExamineRegister n) = n < 16
 IsProper request.ExamineStatus = Unit {0}
+IsProper (request.ExamineField f) = Unit {0}
 IsProper (request.ExamineMemory f at) = IsSpan at
 IsProper (request.DepositRegister n e) = (n < 16) × IsExpression e
 IsProper (request.DepositStatus e) = IsExpression e
@@ -343,6 +349,7 @@ IsProper request.Pages = Unit {0}
 IsProper request.Turn = Unit {0}
 IsProper (request.Evict e) = IsExpression e
 IsProper request.EvictAll = Unit {0}
+IsProper request.Restart = Unit {0}
 IsProper request.Save = Unit {0}
 IsProper (request.Help c) = Unit {0}
 IsProper request.Quit = Unit {0}

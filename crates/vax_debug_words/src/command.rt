@@ -25,13 +25,14 @@ pub enum Command {
     Pages,
     Turn,
     Evict,
+    Restart,
     Save,
     Help,
     Quit,
 }
 
 /// All commands.
-pub const COMMANDS: [Command; 21] = [
+pub const COMMANDS: [Command; 22] = [
     Command::Examine,
     Command::Deposit,
     Command::Disassemble,
@@ -50,6 +51,7 @@ pub const COMMANDS: [Command; 21] = [
     Command::Pages,
     Command::Turn,
     Command::Evict,
+    Command::Restart,
     Command::Save,
     Command::Help,
     Command::Quit,
@@ -105,6 +107,7 @@ fn name(command: Command) -> &'static [u8]
         Command::Pages => b"PAGES",
         Command::Turn => b"TURN",
         Command::Evict => b"EVICT",
+        Command::Restart => b"RESTART",
         Command::Save => b"SAVE",
         Command::Help => b"HELP",
         Command::Quit => b"QUIT",
@@ -202,7 +205,8 @@ pub fn usage(command: Command) -> &'static [u8]
     ensures { result.now ≡ usage_of command }
 {
     match command {
-        Command::Examine => b"EXAMINE[/FORM] x [n]     shows a register, PSL or n values in memory",
+        Command::Examine =>
+            b"EXAMINE[/FORM] x [n]     shows a register, PSL, PSL.FIELD or n values in memory",
         Command::Deposit =>
             b"DEPOSIT[/FORM] x v       puts a value into a register, PSL, PSL.FIELD or memory",
         Command::Disassemble => b"DISASSEMBLE [x [n]]      shows n instructions from x or PC on",
@@ -222,6 +226,7 @@ pub fn usage(command: Command) -> &'static [u8]
             b"PAGES                    shows which pages are resident, kept and modified",
         Command::Turn => b"TURN                     makes one attempt at a step",
         Command::Evict => b"EVICT x, EVICT ALL       makes a page absent, or all pages",
+        Command::Restart => b"RESTART                  begins the program anew",
         Command::Save => b"SAVE                     puts the state into the record, and ends",
         Command::Help => b"HELP [word]              tells how commands are used",
         Command::Quit => b"QUIT                     ends",

@@ -5,7 +5,7 @@ ghost use Rattle.vax_debug_words.specs.Expressions.{IsExpression, expression};
 ghost use Rattle.vax_debug_words.specs.Commands.{meaning};
 ghost use Rattle.vax_debug_words.specs.declared.request.Request.TheVariants as request;
 ghost use Rattle.vax_debug_words.specs.declared.request.Value.TheVariants as value;
-ghost use Rattle.vax_debug_words.specs.Requests.{IsCount, IsProper, IsSpan, IsValue, alone, characters, cleared, count, count_or, deposited, disassembled, evicted, evicted_at, examined, field_of, field_put, form_or_long, help_on, helped, memory_put, memory_shown, mode_number, one_expression, one_shown, put_at, quadword, shown, shown_at, shown_of, span, spanned, spelled, stacked, stepped, value_of, watched};
+ghost use Rattle.vax_debug_words.specs.Requests.{IsCount, IsProper, IsSpan, IsValue, alone, characters, cleared, count, count_or, deposited, disassembled, evicted, evicted_at, examined, field_of, field_put, field_shown, form_or_long, help_on, helped, memory_put, memory_shown, mode_number, one_expression, one_shown, put_at, quadword, shown, shown_at, shown_of, span, spanned, spelled, stacked, stepped, value_of, watched};
 
 use crate::command::{Form, Meaning, begins, is_called, meaning_of};
 use crate::expression::{expression, longword, register};
@@ -101,7 +101,19 @@ fn one_shown(form: Form, what: &[u8]) -> Option<Request>
     span(what, Some(1)).map(|at| Request::ExamineMemory(form, at))
 }
 
-/// A register, the status, or a longword.
+/// A field of the status, or a longword.
+#[tactic(auto, unfolding(crate::specs::Requests::IsProper))]
+fn field_shown(field: Option<Field>, what: &[u8]) -> Option<Request>
+    ensures request { result ≡ field_shown field what.now }
+    ensures proper { IfSome result IsProper }
+{
+    match field {
+        Some(field) => Some(Request::ExamineField(field)),
+        None => one_shown(Form::Long, what),
+    }
+}
+
+/// A register, the status, one of its fields, or a longword.
 #[tactic(auto, unfolding(crate::specs::Requests::IsProper))]
 fn shown_plainly(what: &[u8]) -> Option<Request>
     ensures request { result ≡ shown_at None what.now }
@@ -110,11 +122,11 @@ fn shown_plainly(what: &[u8]) -> Option<Request>
     match register(what) {
         Some(n) => Some(Request::ExamineRegister(n)),
         None if is_called(what, b"PSL") => Some(Request::ExamineStatus),
-        None => one_shown(Form::Long, what),
+        None => field_shown(field_of(what), what),
     }
 }
 
-/// A register, the status, or one value.
+/// A register, the status, one of its fields, or one value.
 fn shown_at(form: Option<Form>, what: &[u8]) -> Option<Request>
     ensures request { result ≡ shown_at form what.now }
     ensures proper { IfSome result IsProper }

@@ -38,6 +38,7 @@ fn asked_plainly(command: Command, operands: &[u8]) -> Option<Request>
         Command::Pages => alone(Request::Pages, operands),
         Command::Turn => alone(Request::Turn, operands),
         Command::Evict => evicted(operands),
+        Command::Restart => alone(Request::Restart, operands),
         Command::Save => alone(Request::Save, operands),
         Command::Help => helped(operands),
         Command::Quit => alone(Request::Quit, operands),

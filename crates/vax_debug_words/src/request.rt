@@ -162,6 +162,8 @@ pub enum Request {
     ExamineRegister(u8),
     /// The processor status longword.
     ExamineStatus,
+    /// One of its fields.
+    ExamineField(Field),
     /// So many values of this form in memory.
     ExamineMemory(Form, Span),
     /// Another value of a register, R0 to R15.
@@ -208,6 +210,8 @@ pub enum Request {
     Evict(Expression),
     /// All pages made absent.
     EvictAll,
+    /// The program at its start again, with the stops and what is watched.
+    Restart,
     /// The end, with the state in the record.
     Save,
     /// What may be asked for, or how one command is used.

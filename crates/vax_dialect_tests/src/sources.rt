@@ -25,7 +25,7 @@ fn fault_of(alloc: Global, dialect: Dialect, source: &str) -> (u32, u8) {
 #[test]
 fn gives_what_one_dialect_has(rt: HostRuntime) -> Result<(), Fail> {
     let alloc = rt.alloc();
-    let rows: [(&str, &[u8], (u32, u8)); 48] = [
+    let rows: [(&str, &[u8], (u32, u8)); 63] = [
         (
             "MOVL #^C<^XFFFF0000>,R0\n",
             b"\xD0\x8F\xFF\xFF\0\0\x50",
@@ -67,6 +67,27 @@ fn gives_what_one_dialect_has(rt: HostRuntime) -> Result<(), Fail> {
         (
             ".ENABLE SUPPRESSION,gbl\n.ENABL DBG\n.DISABLE TRACEBACK,AMA\n.DSABL FPT,LSB\n.BYTE 4\n",
             b"\x04",
+            (1, 2),
+        ),
+        // Names that appeared before, that appear behind it, that the module defines or that it says to be another's.
+        (
+            ".LONG X\n.DISABLE GLOBAL\n.LONG X,A\n.IF NDF Z\n.BYTE 7\n.ENDC\nA = 5\n",
+            b"\0\0\0\0\0\0\0\0\x05\0\0\0\x07",
+            (2, 2),
+        ),
+        (
+            ".DISABLE GLOBAL\n.LONG X,Y,Z\n.EXTERNAL X\n.GLOBAL Y\n.WEAK Z\n",
+            b"\0\0\0\0\0\0\0\0\0\0\0\0",
+            (1, 2),
+        ),
+        (
+            ".DISABLE GLOBAL\n.ENABLE GLOBAL\nA: .LONG X\n.END A\n",
+            b"\0\0\0\0",
+            (1, 2),
+        ),
+        (
+            ".DISABLE GLOBAL\n.EXTERNAL B\n.BYTE 1\n.END B\n",
+            b"\x01",
             (1, 2),
         ),
         (
@@ -169,9 +190,63 @@ fn gives_what_one_dialect_has(rt: HostRuntime) -> Result<(), Fail> {
             (2, 2),
         ),
         (
-            ".CROSS A\n.NOCROSS\n.DEBUG A\n.LIBRARY 'A;B'\n.MCALL $A,$B\n.LINK \"A\"/B\n.PRINT 1 ;C\n.WARN\n.BYTE 3\n",
+            ".CROSS A\n.NOCROSS\n.DEBUG A\n.LIBRARY 'A;B'\n.MCALL $A,$B\n.LINK \"A\"/B\n.TRANSFER A\n.PRINT 1 ;C\n.WARN\n.BYTE 3\n",
             b"\x03",
             (1, 2),
+        ),
+        // A condition that isn't met leaves a message out.
+        (
+            ".IF EQ 1\n.ERROR ;no\n.ENDC\n.IIF EQ 1,.ERROR\n.WARN\n.BYTE 4\n",
+            b"\x04",
+            (5, 2),
+        ),
+        (
+            ".NTYPE T,R5\n.BYTE T\n.NTYPE T,(R1)\n.BYTE T\n.NTYPE T,-(SP)\n.BYTE T\n",
+            b"\x55\x61\x7E",
+            (1, 2),
+        ),
+        (
+            ".NTYPE T,(R2)+\n.BYTE T\n.ntype T,@(R3)+\n.BYTE T\n.NTYPE T,@(R4)\n.BYTE T\n",
+            b"\x82\x93\xB4",
+            (1, 2),
+        ),
+        (
+            ".NTYPE A,4(R1)\n.NTYPE B,@W^4(R1)\n.NTYPE C,300(R1)\n.NTYPE D,L^4(R1)\n.BYTE A,B,C,D\n",
+            b"\xA1\xD1\xC1\xE1",
+            (1, 2),
+        ),
+        // A short literal, and three ways to be immediate.
+        (
+            ".NTYPE A,#63\n.NTYPE B,S^#X\n.NTYPE C,#64\n.NTYPE D,I^#5\n.NTYPE E,#X\n.BYTE A,B,C,D,E\nX=1\n",
+            b"\0\0\x1F\x1F\x1F",
+            (1, 2),
+        ),
+        // Absolute, general, and relative: a known place is near, and what is to come isn't.
+        (
+            ".NTYPE A,@#8\n.NTYPE B,G^8\nL: .NTYPE C,L\n.NTYPE D,@L\n.NTYPE E,X\n.NTYPE F,W^X\n.BYTE A,B,C,D,E,F\nX: NOP\n",
+            b"\x2F\x3F\xAF\xBF\xEF\xCF\x01",
+            (1, 2),
+        ),
+        (".ENABLE ABSOLUTE\n.NTYPE A,8\n.BYTE A\n", b"\x2F", (1, 2)),
+        (
+            ".NTYPE A,(R1)[R2]\n.NTYPE B,G^8[R3]\n.NTYPE C,4(R4)[R5]\n.WORD A,B,C\n",
+            b"\x42\x61\x43\x3F\x45\xA4",
+            (1, 2),
+        ),
+        (
+            "A=7\n.NTYPE A\nB=7\n.NTYPE B,\n.BYTE A,B\n",
+            b"\0\0",
+            (2, 2),
+        ),
+        (
+            ".MACRO KIND X\n.NTYPE T,X\n.IF EQ T@-4-5\n.BYTE 1\n.IFF\n.BYTE 2\n.ENDC\n.ENDM\nKIND R3\nKIND (R3)\n",
+            b"\x01\x02",
+            (9, 2),
+        ),
+        (
+            ".IF NDF T\n.NTYPE T,R0\n.ENDC\n.IIF DF T,.BYTE T\n",
+            b"\x50",
+            (2, 2),
         ),
         (
             ".BLKO\n.BYTE 1\n",
@@ -278,7 +353,22 @@ fn tells_the_faults_of_the_larger_dialect(rt: HostRuntime) {
         (".ASCID X\n", (1, 1)),
         (".ASCID /a/=\n", (1, 4)),
         (".ASCID /a/<256>\n", (1, 7)),
-        (".ERROR 1\n", (1, 2)),
+        (".ERROR 1\n", (1, 12)),
+        (".error 'x ; no\n", (1, 12)),
+        ("A: .ERROR 18446744073709551616\n", (1, 12)),
+        ("A: NOP\nA: .ERROR\n", (2, 6)),
+        (".ERROR\n.BYTE 300,\n", (1, 12)),
+        (".IF EQ 1\n.ERROR\n.ENDC\n.BYTE 300,\n", (4, 7)),
+        (".MACRO NO X\n.ERROR X\n.ENDM\nNO 5\n", (4, 12)),
+        (".NTYPE\n", (1, 3)),
+        (".NTYPE T,R0,R1\n", (1, 3)),
+        (".NTYPE 5,R0\n", (1, 4)),
+        (".NTYPE .,R0\n", (1, 4)),
+        (".NTYPE 1$,R0\n", (1, 4)),
+        (".NTYPE T,#\n", (1, 4)),
+        (".NTYPE T,R1[R2]\n", (1, 4)),
+        (".NTYPE T,B^300(R1)\n", (1, 7)),
+        ("T: .NTYPE T,R0\n", (1, 6)),
         (".REF1\n", (1, 3)),
         (".REF2 R0,R1\n", (1, 3)),
         (".REF1 #256\n", (1, 7)),
@@ -290,7 +380,7 @@ fn tells_the_faults_of_the_larger_dialect(rt: HostRuntime) {
         (".ALIGN LONG,1,2\n", (1, 3)),
         (".ALIGN 10,300\n", (1, 7)),
         (".PSECT A,10\n", (1, 4)),
-        (".PSECT A,ABS\n", (1, 4)),
+        (".PSECT A,MIX\n", (1, 4)),
         (".PSECT A,OVR\n", (1, 4)),
         (".PSECT A,2,LONG\n.PSECT A,3\n", (2, 4)),
         (".ENABLE\n", (1, 3)),
@@ -303,7 +393,17 @@ fn tells_the_faults_of_the_larger_dialect(rt: HostRuntime) {
             ".DEFAULT DISPLACEMENT,BYTE\nTSTL A\n.BLKB 200\nA: NOP\n",
             (2, 7),
         ),
-        (".DISABLE DEBUG,GLOBAL\n", (1, 4)),
+        // Nothing else defines a name that appears while `GLOBAL` is disabled.
+        (".DISABLE DEBUG,GLOBAL\n.LONG X\n", (2, 5)),
+        (
+            ".DSABL GBL\nMOVL X,R0\n.LONG X\n.ENABL GBL\n.LONG Y\n",
+            (2, 5),
+        ),
+        (".DISABLE GLOBAL\nA = X+1\n.LONG A\n", (2, 5)),
+        (".DISABLE GLOBAL\nA: .LONG B-A\n.GLOBAL A\n", (2, 5)),
+        (".DISABLE GLOBAL\nA: NOP\n.END B\n", (3, 5)),
+        // A line's own fault goes before it.
+        (".DISABLE GLOBAL\n.LONG X\n.BYTE 256\n", (3, 7)),
         (".ENABL LSB\n1$: NOP\n.DSABL LSB\nA: BRB 1$\n", (4, 5)),
         (".ENABL LSB\n1$: NOP\n1$: NOP\n", (3, 6)),
         (".SAVE_PSECT GLOBAL\n", (1, 4)),
@@ -360,8 +460,105 @@ fn reads_a_text_of_one_dialect_as_tokens_of_the_other(rt: HostRuntime) {
 
 #[test]
 fn shares_weak_names(rt: HostRuntime) -> Result<(), Fail> {
-    let module = assemble(rt.alloc(), Dialect::Vms, b".WEAK A,B\nA: .LONG B\n")?;
+    let source = b".LONG C\n.WEAK A,B,C\n.EXTERNAL B\nA: .LONG B,D\n";
+    let module = assemble(rt.alloc(), Dialect::Vms, source)?;
     assert!(rt; module.globals.as_slice().len() == 1);
-    assert!(rt; module.externals.as_slice().len() == 1);
+    let externals = module.externals.as_slice();
+    let wanted: [(&[u8], bool); 3] = [(b"C", true), (b"B", true), (b"D", false)];
+    assert!(rt; externals.len() == wanted.len());
+    for (found, (name, weak)) in externals.iter().zip(wanted) {
+        assert!(rt; found.name.as_slice() == name);
+        assert!(rt; found.weak == weak);
+    }
     Ok(())
+}
+
+/// The labels of an absolute section are numbers, and so is `.`; it has no bytes.
+#[test]
+fn counts_in_absolute_sections(rt: HostRuntime) -> Result<(), Fail> {
+    let alloc = rt.alloc();
+    let rows: [(&str, &[u8]); 8] = [
+        (
+            ".PSECT X,ABS\nA: .BLKB 1\nB: .BLKW 1\n.ALIGN LONG\nC: .BLKQ 2\nD:\n.PSECT\n.BYTE A,B,C,D\n",
+            b"\0\x01\x04\x14",
+        ),
+        (
+            ".PSECT X,ABS\n.=.+7\nA: .EVEN\nB: .ODD\nC: .BLKB\nD:\n.PSECT\n.BYTE A,B,C,D\n",
+            b"\x07\x08\x09\x0A",
+        ),
+        (
+            ".PSECT X,abs,LONG,NOWRT\n.BLKL\n.PSECT\n.BYTE 1\n.PSECT X\nA:\n.PSECT\n.BYTE A\n",
+            b"\x01\x04",
+        ),
+        (
+            ".PSECT X,ABS\n.BLKW\n.SAVE_PSECT\n.PSECT\n.BYTE 5\n.RESTORE_PSECT\nA: .BLKB\n.PSECT\n.BYTE A\n",
+            b"\x05\x02",
+        ),
+        (
+            ".PSECT X,ABS\n.BLKB 3\nN=.\n.=8\nM=.\n.PSECT\n.BYTE N,M\n",
+            b"\x03\x08",
+        ),
+        (
+            ".PSECT X,ABS\n.BLKB\n.ALIGN LONG,0\nA:\n.PSECT\n.BYTE A\n",
+            b"\x04",
+        ),
+        (
+            ".PSECT X,ABS\n.BLKL\nF: .BLKL\n.PSECT\nMOVL F(R1),R0\n",
+            b"\xD0\xA1\x04\x50",
+        ),
+        (
+            ".PSECT X,REL\nA: .BYTE 1\n.PSECT X,REL\nB:\n.PSECT\n.BYTE B-A\n",
+            b"\x01",
+        ),
+    ];
+    for (source, bytes) in rows {
+        let module = assemble(alloc, Dialect::Vms, source.as_bytes())?;
+        assert!(rt; bytes_of(&module) == bytes, "{source}");
+    }
+    Ok(())
+}
+
+/// An absolute section stands in its module without bytes, and is aligned to nothing.
+#[test]
+fn lays_no_absolute_section(rt: HostRuntime) -> Result<(), Fail> {
+    let source = b".PSECT X,ABS,PAGE\n.BLKB 600\nA::\n.PSECT Y\n.BYTE 1\n";
+    let module = assemble(rt.alloc(), Dialect::Vms, source)?;
+    let lengths = [0, 0, 1];
+    assert!(rt; module.sections.as_slice().len() == lengths.len());
+    for (section, length) in module.sections.as_slice().iter().zip(lengths) {
+        assert!(rt; section.bytes.as_slice().len() == length);
+        assert!(rt; section.align == 1);
+    }
+    for global in module.globals.as_slice() {
+        assert!(rt; global.value == Value::Absolute(600));
+    }
+    Ok(())
+}
+
+#[test]
+fn finds_faults_in_absolute_sections(rt: HostRuntime) {
+    let alloc = rt.alloc();
+    let rows = [
+        (".PSECT X,ABS\nNOP\n", (2, 4)),
+        (".PSECT X,ABS\n.BYTE 0\n", (2, 4)),
+        (".PSECT X,ABS\n.BYTE 0[0]\n", (2, 4)),
+        (".PSECT X,ABS\n.LONG 0[20000000]\n", (2, 4)),
+        (".PSECT X,ABS\n.ASCII //\n", (2, 4)),
+        (".PSECT X,ABS\n.ADDRESS A\n", (2, 4)),
+        (".PSECT X,ABS\n.REF4 R0\n", (2, 4)),
+        (".PSECT X,ABS\n.ENTRY A,0\n", (2, 4)),
+        (".PSECT X,ABS\n.ALIGN BYTE,1\n", (2, 4)),
+        (".PSECT X,ABS,REL\n", (1, 4)),
+        (".PSECT X,REL,ABS\n", (1, 4)),
+        (".PSECT X\n.PSECT X,ABS\n", (2, 4)),
+        (".PSECT X,ABS\n.PSECT X,REL\n", (2, 4)),
+        (".PSECT X,ABS\n.BLKB 2\n.=1\n", (3, 7)),
+        (".PSECT X,ABS\n.BLKB 1048577\n", (2, 11)),
+        ("A: NOP\n.PSECT X,ABS\n.=A\n", (3, 4)),
+        (".PSECT X,ABS\nA:\n.PSECT\n.=A\n", (4, 4)),
+    ];
+    for (source, fault) in rows {
+        assert!(rt; fault_of(alloc, Dialect::Vms, source) == fault, "{source}");
+    }
+    assert!(rt; fault_of(alloc, Dialect::Vax, ".PSECT X,ABS\n") == (1, 4));
 }

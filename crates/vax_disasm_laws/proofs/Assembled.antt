@@ -28,7 +28,7 @@ use Rattle.vax_asm_laws.specs.Counted.{end_of}
 use Rattle.vax_asm_laws.specs.Leading.{Leads, Line, with_statement}
 use Rattle.vax_asm_laws.specs.Lying.{StandsAt}
 use Rattle.vax_disasm_laws.specs.Assembling.{IsLinked, Program, Shows}
-use Rattle.vax_disasm_laws.proofs.Adding.{Longer, adds, adds_made, begun_at, put_all, put_longer, standing_with}
+use Rattle.vax_disasm_laws.proofs.Adding.{HasData, Longer, adds, adds_made, adds_relative, begun_at, put_all, put_longer, standing_with}
 use Rattle.vax_disasm_laws.proofs.Lines.{NextRead, fields, head_kind, later_bytes, next_read, none_read, parts_of, tail_kinds}
 use Rattle.vax_disasm_laws.proofs.Meant.{back_from, number_for, operand_for}
 use Rattle.vax_disasm_laws.proofs.Readings.{AreBytes, IsRead, May, is_read_from}
@@ -114,13 +114,13 @@ pub record Puts (parts : List (Part Fixup)) (a : Assembly) (line : Line) (b : As
   pub one : Leads a (line ∷ []) b
 
 -- A line that is placed so puts its parts behind the section's.
-pub line_puts : (parts : List (Part Fixup)) (a : Assembly) (line : Line) (lines : List Line) (end : Assembly) → a.standing.sections.current < length a.standing.sections.all
+pub line_puts : (parts : List (Part Fixup)) (a : Assembly) (line : Line) (lines : List Line) (end : Assembly) → HasData parts → a.standing.sections.current < length a.standing.sections.all
     → placed line.origin line.text a.standing ≡ placed_by (done (adds parts (begun_at a.standing)).progress) None → Leads a (line ∷ lines) end → (b : Assembly) × Puts parts a line b lines end
-line_puts parts a line lines end within is leads =
+line_puts parts a line lines end sort within is leads =
     let t : Standing = leads.0 in
     let r = adds parts (begun_at a.standing) in
     let made = placed_ok (done r.progress) t leads.1 (sym is ∙ leads.2) in
     let stood = done_ok r.progress.fault r.progress.standing t made in
     let standing : standing_with parts a.standing ≡ t = sym (adds_made parts (begun_at a.standing) stood.0) ∙ stood.1 in
     let sections : put_all parts a.standing.sections ≡ t.sections = ap (λ (x : Standing). x.sections) standing in
-    (with_statement t leads.1 a, record { longer = subst (λ (x : Sections Fixup). Longer parts a.standing.sections x) sections (put_longer parts a.standing.sections within); leads = leads.3; one = (t, leads.1, leads.2, refl) })
+    (with_statement t leads.1 a, record { longer = subst (λ (x : Sections Fixup). Longer parts a.standing.sections x) sections (put_longer parts a.standing.sections within (adds_relative parts a.standing sort stood.0)); leads = leads.3; one = (t, leads.1, leads.2, refl) })

@@ -31,7 +31,7 @@ use Rattle.vax_disasm.specs.Text.{instruction_text}
 use Rattle.vax_listing.specs.Listing.{length_of, line, lines_from, text_of}
 use Rattle.vax_disasm_laws.specs.Assembling.{IsLinked, Program, Shows, texts}
 use Rattle.vax_disasm_laws.specs.Rows.{row_line, row_texts, rows_from}
-use Rattle.vax_disasm_laws.proofs.Adding.{adds, begun_at}
+use Rattle.vax_disasm_laws.proofs.Adding.{HasData, adds, begun_at}
 use Rattle.vax_disasm_laws.proofs.Assembled.{AllLie, Puts, instruction_shown, line_puts, long_for, total_within}
 use Rattle.vax_disasm_laws.proofs.Bytes.{byte_part, byte_placed, byte_text}
 use Rattle.vax_disasm_laws.proofs.Lines.{NextRead, fields, found_formed, found_kinds, head_kind, later_bytes, line_placed, next_read, none_read, parts_of, tail_kinds}
@@ -133,10 +133,10 @@ module _ (p : Program) (owner i : ℕ) (section : Section) (k : Known) (whole : 
     pub size : size_of b ≡ size_of a + count
     pub shown : Shows p.image address bytes
 
-  line_amid : (parts : List (Part Fixup)) (a : Assembly) (l : Line) (lines : List Line) → Ahead all i a end → Leads a (l ∷ lines) end → placed l.origin l.text a.standing ≡ placed_by (done (adds parts (begun_at a.standing)).progress) None
+  line_amid : (parts : List (Part Fixup)) (a : Assembly) (l : Line) (lines : List Line) → HasData parts → Ahead all i a end → Leads a (l ∷ lines) end → placed l.origin l.text a.standing ≡ placed_by (done (adds parts (begun_at a.standing)).progress) None
       → (b : Assembly) × Leads b lines end × Amid all parts a b end i
-  line_amid parts a l lines h leads is =
-      let made = line_puts parts a l lines end h.counted.current is leads in
+  line_amid parts a l lines sort h leads is =
+      let made = line_puts parts a l lines end sort h.counted.current is leads in
       let counted : AreCounted made.0.standing.sections = (lead_on a made.0 (l ∷ []) h.counted made.1.one).counted in
       (made.0, made.1.leads, amid all parts i a made.0 end l lines h leads counted made.1)
 
@@ -150,7 +150,7 @@ module _ (p : Program) (owner i : ℕ) (section : Section) (k : Known) (whole : 
       let ks : All IsKind one.row.operands = found_kinds one.row (found_formed is.opcode one.row is.listed) in
       let placed_so : placed text.origin text.text a.standing ≡ placed_by (done (adds parts (begun_at a.standing)).progress) None =
       ap (λ (t : List ℕ). placed text.origin t a.standing) (same ∙ one.text) ∙ line_placed text.origin address is.opcode is.rest one.row q a.standing behind is.listed is.read is.unreserved in
-      let made = line_amid parts a text lines h leads placed_so in
+      let made = line_amid parts a text lines tt h leads placed_so in
       let m : Amid all parts a made.0 end i = made.2 in
       let shown : Shows p.image address (take (1 + total q) (is.opcode ∷ is.rest)) =
       instruction_shown p owner i section k whole has all lie text.origin is.opcode is.rest one.row q address (size_of a) m.before m.after behind ks is.read is.unreserved m.place at m.split in
@@ -169,7 +169,7 @@ module _ (p : Program) (owner i : ℕ) (section : Section) (k : Known) (whole : 
       let part : Part Fixup = byte_part text.origin byte (size_of a) in
       let placed_so : placed text.origin text.text a.standing ≡ placed_by (done (adds (part ∷ []) (begun_at a.standing)).progress) None =
       ap (λ (t : List ℕ). placed text.origin t a.standing) same ∙ byte_placed text.origin byte a.standing small in
-      let made = line_amid (part ∷ []) a text lines h leads placed_so in
+      let made = line_amid (part ∷ []) a text lines tt h leads placed_so in
       let m : Amid all (part ∷ []) a made.0 end i = made.2 in
       let low : nat_lt byte 256 ≡ true = grind (arith, nat_tests) in
       let rest : byte % 256 ≡ byte = omega arith in

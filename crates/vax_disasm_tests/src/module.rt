@@ -21,15 +21,19 @@ fn tells_its_parts(rt: HostRuntime) -> Result<(), Fail> {
             offset: 0,
         },
     };
+    let external = ExternalName {
+        name: Bytes::from(b"X".to_vec(rt.alloc())?),
+        weak: false,
+    };
     let module = Module {
         sections: Items::from(vec![in rt.alloc(); section]?),
         globals: Items::from(Vec::new(rt.alloc())),
-        externals: Items::from(vec![in rt.alloc(); Bytes::from(b"X".to_vec(rt.alloc())?)]?),
+        externals: Items::from(vec![in rt.alloc(); external]?),
         relocs: Items::from([reloc].to_vec(rt.alloc())?),
         transfer: None,
     };
     assert!(rt; matches!(module.sections.as_slice(), [s] if s.bytes.as_slice().len() == 6));
-    assert!(rt; matches!(module.externals.as_slice(), [x] if x.as_slice() == b"X".as_slice()));
+    assert!(rt; matches!(module.externals.as_slice(), [x] if x.name.as_slice() == b"X".as_slice()));
     assert!(rt; module.globals.as_slice().is_empty());
     assert!(rt; module.relocs.as_slice() == [reloc].as_slice());
     assert!(rt; module.transfer.is_none());

@@ -306,7 +306,7 @@ impl Setup {
         let failing_blocks = failing(self.alloc, &said.pages, change, Object::Pages)?;
         let sink = MemSink::new(
             self.alloc,
-            [2000, 2000, 2000],
+            [2000, 4000, 2000],
             self.bites.max(1),
             failing_writes,
         )?;

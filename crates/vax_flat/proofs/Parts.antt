@@ -24,7 +24,7 @@ use Rattle.vax_flat.specs.Delivery.{interrupt}
 use Rattle.vax_flat.specs.System.{flow_of_delivery}
 use Rattle.vax_flat.specs.Instruction.{acted, acted_if, acted_part, acted_part_if, instruction, first_part}
 use Rattle.vax_flat.specs.Step.{Flat, state_of, level, begun, whole, whole_step, leaf, step, step_from, after_instruction}
-use Rattle.vax_flat.specs.String.{low_registers, left, suspended, from_registers, IsReady}
+use Rattle.vax_flat.specs.String.{low_registers, suspended, from_registers, IsReady}
 use Rattle.vax_flat.specs.StringAgree.{and_rest}
 use Rattle.vax_flat.specs.StringParts.{remaining, remaining_in, resumed}
 use Rattle.vax_flat.specs.Parts.{Partway, Place, At, Within, Completes, Leaves, GoesBy, begun_part, part, later, left_by, after_part, partway, outcome_at, Turn, turn, turn_from, units_after}

@@ -9,7 +9,7 @@ use Rattle.vax_space.specs.declared.Access.TheVariants.{Write}
 use Rattle.vax_space.specs.declared.Area.{Area}
 use Rattle.vax_space.specs.Areas.{has_page}
 use Rattle.vax_space.specs.Reference.{page_of, may_access, violation}
-use Rattle.vax_flat.specs.Memory.{after, byte_at, bytes_from, with_byte, written, written_run}
+use Rattle.vax_flat.specs.Memory.{after, byte_at, bytes_from, with_byte, written_run}
 use Rattle.vax_flat.specs.State.{State, mode}
 use Rattle.vax_flat.specs.Accesses.{Accesses, Leaf}
 use Rattle.vax_flat.specs.Outcome.{outcome_of}

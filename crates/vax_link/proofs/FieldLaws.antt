@@ -17,7 +17,7 @@ use Rattle.vax_image.specs.declared.Base.{Base}
 use Rattle.vax_link.specs.Names.{module_at, nothing, plus}
 use Rattle.vax_link.specs.Layout.{addresses, first_piece, pieces_of}
 use Rattle.vax_link.specs.Placed.{AreFirsts, bytes_in, external_values}
-use Rattle.vax_link.specs.Values.{filled_from, filled_sections_from, name_value, section_address, unreached_from, value_of, value_of_external, with_reach, with_reloc}
+use Rattle.vax_link.specs.Values.{filled_from, external_value, filled_sections_from, section_address, unreached_from, value_of, value_of_external, with_reach, with_reloc}
 use Rattle.vax_link.specs.Linked.{transfer_from}
 use Rattle.vax_link.proofs.LayoutLaws.{addresses_long}
 
@@ -38,17 +38,17 @@ sum_is a b x y p q = ap (λ n. (n + b) % 4294967296) p ∙ ap (λ n. (x + n) % 4
 -- ---- values of external names
 
 pub values_at : (region : Base) (modules : List Module) (kept : List (Vec ℕ)) (owner : ℕ) (v : Vec ℕ) → bytes_in kept ≡ external_values region modules → (owner < length kept) × (v ≡ get_or kept owner v)
-    → v.items ≡ map (name_value region modules) (module_at modules owner).externals
+    → v.items ≡ map (external_value region modules) (module_at modules owner).externals
 values_at region modules kept owner v same at =
     let items : Vec ℕ → List ℕ = λ u. u.items in
-    let values : Module → List ℕ = λ m. map (name_value region modules) m.externals in
+    let values : Module → List ℕ = λ m. map (external_value region modules) m.externals in
     ap items at.1 ∙ sym (read-map items kept owner v [] at.0) ∙ ap (λ (vs : List (List ℕ)). get_or vs owner []) same ∙ get_or-map values modules owner nothing
 
-pub external_past : (region : Base) (modules : List Module) (owner index : ℕ) (items : List ℕ) → items ≡ map (name_value region modules) (module_at modules owner).externals → length items ≤ index
+pub external_past : (region : Base) (modules : List Module) (owner index : ℕ) (items : List ℕ) → items ≡ map (external_value region modules) (module_at modules owner).externals → length items ≤ index
     → 0 ≡ value_of_external region modules owner index
 external_past region modules owner index items same past = sym (get_or_past items index 0 past) ∙ ap (λ (vs : List ℕ). slice_index vs index) same
 
-pub external_found : (region : Base) (modules : List Module) (owner index : ℕ) (items : List ℕ) (x : ℕ) → items ≡ map (name_value region modules) (module_at modules owner).externals → (index < length items) × (x ≡ get_or items index x)
+pub external_found : (region : Base) (modules : List Module) (owner index : ℕ) (items : List ℕ) (x : ℕ) → items ≡ map (external_value region modules) (module_at modules owner).externals → (index < length items) × (x ≡ get_or items index x)
     → x ≡ value_of_external region modules owner index
 external_found region modules owner index items x same at = at.1 ∙ get_or_default_zero items index x at.0 ∙ ap (λ (vs : List ℕ). slice_index vs index) same
 

@@ -1,13 +1,13 @@
 -- Which image modules have, or which refusal comes first.
 use Rattle.std.proofs.Common.{◌≡◌, ℕ, true, false, List, Some, None, refl, sym, ap}
-use Rattle.std.specs.Prelude.{Ok, Err}
+use Rattle.std.specs.Prelude.{Ok, Err, option_map}
 use Rattle.std.specs.List.{find}
 use Rattle.vax_module.specs.declared.Module.{Module}
 use Rattle.vax_space.specs.declared.Area.{Area}
 use Rattle.vax_image.specs.declared.Base.{Base}
 use Rattle.vax_image.specs.Image.{is_in}
 use Rattle.vax_link.specs.declared.LinkError.TheVariants.{Duplicate, Undefined, Pages, NoTransfer, Reach}
-use Rattle.vax_link.specs.Names.{Name, duplicate, undefined, is_undefined, entries_from, externals}
+use Rattle.vax_link.specs.Names.{Name, duplicate, undefined, is_at_fault, entries_from, externals}
 use Rattle.vax_link.specs.Layout.{is_too_large, pieces_of}
 use Rattle.vax_link.specs.Values.{filled_from, unreached_from}
 use Rattle.vax_link.specs.Linked.{areas_of, linked, placed, transfer_from}
@@ -30,9 +30,9 @@ unfolding linked
 links_placed region modules single known room = sym (rw (single, known, room) refl)
 
 -- the table's names are the modules'
-pub undefined_is : (kept modules : List Module) → kept ≡ modules → find (is_undefined kept (entries_from 0 kept)) (externals kept) ≡ undefined modules
+pub undefined_is : (kept modules : List Module) → kept ≡ modules → option_map (λ e. e.name) (find (is_at_fault kept (entries_from 0 kept)) (externals kept)) ≡ undefined modules
 unfolding undefined
-undefined_is kept modules same = ap (λ (ms : List Module). find (is_undefined ms (entries_from 0 ms)) (externals ms)) same
+undefined_is kept modules same = ap (λ (ms : List Module). option_map (λ e. e.name) (find (is_at_fault ms (entries_from 0 ms)) (externals ms))) same
 
 -- ---- what the sections come to
 

@@ -167,7 +167,7 @@ stepped modules entries zero name offset = Circles
 stepped modules entries (suc left) name offset =
     leads (definition_of name entries) offset (λ owner index more. stepped modules entries left (external_name modules owner index) (plus offset more))
 
-pub stepped_unknown : (modules : List Module) (entries : Entries) (left : ℕ) (name : Name) (offset : ℕ) → definition_of name entries ≡ None → stepped modules entries (suc left) name offset ≡ Unknown
+pub stepped_unknown : (modules : List Module) (entries : Entries) (left : ℕ) (name : Name) (offset : ℕ) → definition_of name entries ≡ None → stepped modules entries (suc left) name offset ≡ Unknown offset
 unfolding stepped
 stepped_unknown modules entries left name offset none = rw none refl
 

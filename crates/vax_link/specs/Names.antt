@@ -1,11 +1,12 @@
 -- The names that modules share: which is defined twice, which isn't defined, and what a name leads to.
-use Rattle.std.specs.Prelude.{ℕ, zero, suc, ◌+◌, ◌%◌, ◌^◌, ℤ, Bool, true, false, not, ◌||◌, List, [], ◌∷◌, ◌++◌, length, map, slice_get, slice_index_or, Option, Some, None, option_map, is_some, if◌then◌else◌}
+use Rattle.std.specs.Prelude.{ℕ, zero, suc, ◌+◌, ◌%◌, ◌^◌, ℤ, Bool, true, false, not, ◌&&◌, ◌||◌, List, [], ◌∷◌, ◌++◌, length, map, slice_get, slice_index_or, Option, Some, None, option_map, is_some, if◌then◌else◌}
 use Rattle.std.specs.List.{filter_map, flat_map, find, list_any}
 use Rattle.std.specs.Map.{lookup}
 use Rattle.std.specs.Int.{w64, cast_unsigned}
 use Rattle.std.specs.Str.{bytes_eq}
 use Rattle.vax_lex.specs.declared.value.Value.{Value}
 use Rattle.vax_lex.specs.declared.value.Value.TheVariants.{Absolute, Section as InSection, External}
+use Rattle.vax_module.specs.declared.ExternalName.{ExternalName}
 use Rattle.vax_module.specs.declared.Symbol.{Symbol}
 use Rattle.vax_module.specs.declared.Module.{Module}
 use Rattle.vax_link.specs.declared.names.Definition.{Definition}
@@ -62,8 +63,11 @@ nothing = record { sections = []; globals = []; externals = []; relocs = []; tra
 abbrev pub module_at : List Module → ℕ → Module
 module_at modules owner = slice_index_or modules owner nothing
 
+abbrev pub no_external : ExternalName
+no_external = record { name = []; weak = false }
+
 abbrev pub external_name : List Module → ℕ → ℕ → Name
-external_name modules owner index = slice_index_or (module_at modules owner).externals index []
+external_name modules owner index = (slice_index_or (module_at modules owner).externals index no_external).name
 
 -- the low 32 bits
 abbrev pub low_longword : ℤ → ℕ
@@ -79,7 +83,7 @@ led owner (InSection section place) offset next = Ends owner (InSection section 
 led owner (External index more) offset next = next owner index (low_longword more)
 
 abbrev pub leads : Option Definition → ℕ → (ℕ → ℕ → ℕ → Chased) → Chased
-leads None offset next = Unknown
+leads None offset next = Unknown offset
 leads (Some definition) offset next = led definition.owner definition.value offset next
 
 abbrev pub is_met : Name → List Name → Bool
@@ -99,16 +103,16 @@ chase modules entries name = chased modules entries (suc (length entries)) [] na
 
 abbrev pub comes_back : Chased → Bool
 comes_back (Ends owner value offset) = false
-comes_back Unknown = false
+comes_back (Unknown offset) = false
 comes_back Circles = true
 
--- no module defines the name, or its definition comes back to a name that it has already met
-abbrev pub is_undefined : List Module → Entries → Name → Bool
-is_undefined modules entries name = not (is_defined name entries) || comes_back (chase modules entries name)
+-- No module defines the name, which isn't weak; or its definition comes back to a name that it has already met.
+abbrev pub is_at_fault : List Module → Entries → ExternalName → Bool
+is_at_fault modules entries e = (not e.weak && not (is_defined e.name entries)) || comes_back (chase modules entries e.name)
 
-abbrev pub externals : List Module → List Name
+abbrev pub externals : List Module → List ExternalName
 externals modules = flat_map (λ m. m.externals) modules
 
 -- the first external name at fault
 unfoldable pub undefined : List Module → Option Name
-undefined modules = find (is_undefined modules (entries_from 0 modules)) (externals modules)
+undefined modules = option_map (λ e. e.name) (find (is_at_fault modules (entries_from 0 modules)) (externals modules))

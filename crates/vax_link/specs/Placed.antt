@@ -7,7 +7,7 @@ use Rattle.vax_image.specs.declared.Base.{Base}
 use Rattle.vax_link.specs.declared.placed.Layout.{Layout}
 use Rattle.vax_link.specs.declared.fields.Values.{Values}
 use Rattle.vax_link.specs.Layout.{pieces_of, first_piece, sections_in}
-use Rattle.vax_link.specs.Values.{name_value}
+use Rattle.vax_link.specs.Values.{external_value}
 
 -- the bytes of pieces
 abbrev pub bytes_in : List (Vec ℕ) → List (List ℕ)
@@ -26,7 +26,7 @@ pub record IsLayout (layout : Layout) (region : Base) (modules : List Module) : 
 
 -- the values of each module's external names
 abbrev pub external_values : Base → List Module → List (List ℕ)
-external_values region modules = map (λ m. map (name_value region modules) m.externals) modules
+external_values region modules = map (λ m. map (external_value region modules) m.externals) modules
 
 -- what the names of these modules stand for, where they lie
 pub record IsValues (values : Values) (region : Base) (modules : List Module) : Type 0 where

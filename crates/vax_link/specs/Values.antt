@@ -4,6 +4,7 @@ use Rattle.std.specs.List.{fold}
 use Rattle.byteorder.specs.Endian.{little_bytes}
 use Rattle.vax_lex.specs.declared.value.Value.{Value}
 use Rattle.vax_lex.specs.declared.value.Value.TheVariants.{Absolute, Section as InSection, External}
+use Rattle.vax_module.specs.declared.ExternalName.{ExternalName}
 use Rattle.vax_module.specs.declared.Module.{Module}
 use Rattle.vax_module.specs.declared.Reloc.{Reloc}
 use Rattle.vax_module.specs.declared.RelocKind.{RelocKind}
@@ -24,17 +25,21 @@ known_value region modules owner (Absolute n) = low_longword n
 known_value region modules owner (InSection section place) = plus (section_address region modules owner section) (low_longword place)
 known_value region modules owner (External index place) = 0
 
+-- A weak name that no module defines is 0, beside what is added to it.
 abbrev pub chased_value : Base → List Module → Chased → ℕ
 chased_value region modules (Ends owner value offset) = plus (known_value region modules owner value) offset
-chased_value region modules Unknown = 0
+chased_value region modules (Unknown offset) = offset
 chased_value region modules Circles = 0
 
 unfoldable pub name_value : Base → List Module → Name → ℕ
 name_value region modules name = chased_value region modules (chase modules (entries_from 0 modules) name)
 
+abbrev pub external_value : Base → List Module → ExternalName → ℕ
+external_value region modules e = name_value region modules e.name
+
 -- the value of an external name of a module
 abbrev pub value_of_external : Base → List Module → ℕ → ℕ → ℕ
-value_of_external region modules owner index = slice_index (map (name_value region modules) (module_at modules owner).externals) index
+value_of_external region modules owner index = slice_index (map (external_value region modules) (module_at modules owner).externals) index
 
 -- the low 32 bits of what a value of a module stands for
 unfoldable pub value_of : Base → List Module → ℕ → Value → ℕ

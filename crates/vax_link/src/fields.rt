@@ -13,7 +13,7 @@ use crate::names::{Chased, Names, low_longword};
 use crate::placed::Layout;
 use byteorder::{ByteOrder, LittleEndian};
 use std::alloc::{AllocError, Global};
-use vax_module::{Bytes, Module, Reloc, RelocKind, Section, Value};
+use vax_module::{ExternalName, Module, Reloc, RelocKind, Section, Value};
 
 /// The values of names and fields, where the modules lie.
 #[derive(Drop)]
@@ -71,7 +71,7 @@ fn put_field(bytes: &mut [u8], offset: u32, kind: RelocKind, n: u32)
 }
 
 impl<'a> Values<'a> {
-    /// The values, where every name leads to a place.
+    /// The values, where every name leads to a place, or is weak.
     pub(crate) fn new(
         alloc: Global,
         layout: Layout<'a>,
@@ -297,7 +297,8 @@ fn name_value<'a>(layout: &Layout<'a>, names: &Names<'a>, name: &'a [u8]) -> u32
         Chased::Ends(owner, value, offset) => {
             known_value(layout, owner, value).wrapping_add(offset)
         }
-        Chased::Unknown => 0,
+        // A weak name that no module defines is 0.
+        Chased::Unknown(offset) => offset,
         Chased::Circles => 0,
     }
 }
@@ -307,16 +308,16 @@ fn values_of_names<'a>(
     alloc: Global,
     layout: &Layout<'a>,
     names: &Names<'a>,
-    externals: &'a [Bytes],
+    externals: &'a [ExternalName],
 ) -> Result<Vec<u32>, AllocError>
     ensures { let modules = names.now.modules.now in (region : Base) →
         IsLayout layout.now region modules → IsTable names.now (entries_from 0 modules) →
         IfOk result (λ values. values.items
-        ≡ map (spec.name_value region modules) externals.entry.now) }
+        ≡ map (spec.external_value region modules) externals.entry.now) }
 {
     let mut values = Vec::new(alloc);
-    for name in externals {
-        values.push(name_value(layout, names, name.as_slice()))?;
+    for external in externals {
+        values.push(name_value(layout, names, external.name.as_slice()))?;
     }
     Ok(values)
 }

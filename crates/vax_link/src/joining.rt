@@ -89,7 +89,8 @@ pub fn link(alloc: Global, modules: &[Module], base: Base) -> Result<Image, Link
         Ok(names) => names,
         Err(name) => return Err(LinkError::Duplicate(copy_of(alloc, name)?)),
     };
-    if let Some(name) = names.undefined() {
+    if let Some(external) = names.undefined() {
+        let name = external.name.as_slice();
         return Err(LinkError::Undefined(copy_of(alloc, name)?));
     }
     let Some(layout) = lay_out(alloc, base, modules)? else {

@@ -29,7 +29,8 @@ pub enum LinkError {
     /// name of a second transfer address.
     #[error("{name} is defined twice", name = text_of(.0))]
     Duplicate(Bytes),
-    /// The first external name that no module defines, or whose definition leads back to a name that it has met.
+    /// The first external name that no module defines and that isn't weak, or whose definition leads back to a name that it
+    /// has met.
     #[error("{name} is defined nowhere", name = text_of(.0))]
     Undefined(Bytes),
     /// A section passes the last page of its part of memory, the system control block has more than 512 bytes, or there

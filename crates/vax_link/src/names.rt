@@ -7,7 +7,7 @@ ghost use Rattle.std.specs.List.{find};
 
 use std::alloc::{AllocError, Global};
 use std::collections::HashMap;
-use vax_module::{Bytes, Module, Symbol, Value};
+use vax_module::{ExternalName, Module, Symbol, Value};
 
 /// What a global name stands for, and the number of its module.
 #[derive(Clone, Copy)]
@@ -17,11 +17,11 @@ pub(crate) struct Definition {
 }
 
 /// What a name leads to: a number or a place in a section of a module, and what is added to it; a name that no module
-/// defines; or a name that it has already met.
+/// defines, and what is added to that; or a name that it has already met.
 #[derive(Clone, Copy)]
 pub(crate) enum Chased {
     Ends(u32, Value, u32),
-    Unknown,
+    Unknown(u32),
     Circles,
 }
 
@@ -49,7 +49,7 @@ pub(crate) fn external_name<'a>(modules: &'a [Module], owner: u32, index: u32) -
         None => &[],
         Some(module) => match module.externals.as_slice().get(index as usize) {
             None => &[],
-            Some(name) => name.as_slice(),
+            Some(external) => external.name.as_slice(),
         },
     }
 }
@@ -120,7 +120,7 @@ impl<'a> Names<'a> {
         let mut offset = 0u32;
         for _ in 0..self.steps {
             match self.defined.get(name) {
-                None => return Chased::Unknown,
+                None => return Chased::Unknown(offset),
                 Some(definition) => match definition.value {
                     Value::External {
                         index,
@@ -136,38 +136,39 @@ impl<'a> Names<'a> {
         Chased::Circles
     }
 
-    /// Whether no module defines a name, or its definition comes back to a name that it has already met.
-    fn is_undefined(&self, name: &'a [u8]) -> bool
+    /// Whether no module defines a name that isn't weak, or its definition comes back to a name that it has already met.
+    fn is_at_fault(&self, external: &'a ExternalName) -> bool
         ensures { (entries : Entries) → IsTable self.now entries →
-            result ≡ spec.is_undefined self.now.modules.now entries name.entry.now }
+            result ≡ spec.is_at_fault self.now.modules.now entries external.entry.now }
     {
-        !self.has(name) || matches!(self.chase(name), Chased::Circles)
+        let name = external.name.as_slice();
+        (!external.weak && !self.has(name)) || matches!(self.chase(name), Chased::Circles)
     }
 
     /// The first external name at fault.
-    pub(crate) fn undefined(&self) -> Option<&'a [u8]>
+    pub(crate) fn undefined(&self) -> Option<&'a ExternalName>
         ensures { (entries : Entries) → IsTable self.now entries →
-            option_copied result ≡ find (spec.is_undefined self.now.modules.now entries)
+            option_copied result ≡ find (spec.is_at_fault self.now.modules.now entries)
             (spec.externals self.now.modules.now) }
     {
         for module in self.modules {
             match self.undefined_of(module.externals.as_slice()) {
                 None => {}
-                Some(name) => return Some(name),
+                Some(external) => return Some(external),
             }
         }
         None
     }
 
     /// The first of these external names that is at fault.
-    fn undefined_of(&self, externals: &'a [Bytes]) -> Option<&'a [u8]>
+    fn undefined_of(&self, externals: &'a [ExternalName]) -> Option<&'a ExternalName>
         ensures { (entries : Entries) → IsTable self.now entries →
-            option_copied result ≡ find (spec.is_undefined self.now.modules.now entries)
+            option_copied result ≡ find (spec.is_at_fault self.now.modules.now entries)
             externals.entry.now }
     {
-        for name in externals {
-            if self.is_undefined(name.as_slice()) {
-                return Some(name.as_slice());
+        for external in externals {
+            if self.is_at_fault(external) {
+                return Some(external);
             }
         }
         None

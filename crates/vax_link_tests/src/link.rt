@@ -6,7 +6,7 @@ ghost use Rattle.vax_image.specs.Image.{IsImage};
 use std::test::Fail;
 use vax_image::{Base, Image, read, start, write};
 use vax_link::*;
-use vax_module::{Module, Reloc, RelocKind, Section, Symbol, Value};
+use vax_module::{ExternalName, Module, Reloc, RelocKind, Section, Symbol, Value};
 use vax_space::Bytes;
 
 /// The start of a section.
@@ -40,13 +40,13 @@ fn section(
     })
 }
 
-/// A module of a section in which it may begin, a global name, an external name and a field.
+/// A module of a section in which it may begin, a global name, an external name, which may be weak, and a field.
 fn module(
     rt: &HostRuntime,
     part: Section,
     begins: Option<Value>,
     global: Option<(&[u8], Value)>,
-    external: Option<&[u8]>,
+    external: Option<(&[u8], bool)>,
     field: Option<Reloc>,
 ) -> Result<Module, Fail> {
     let mut sections = Vec::new(rt.alloc());
@@ -58,8 +58,9 @@ fn module(
         globals.push(Symbol { name, value })?;
     }
     let mut externals = Vec::new(rt.alloc());
-    if let Some(name) = external {
-        externals.push(text(rt, name)?)?;
+    if let Some((name, weak)) = external {
+        let name = text(rt, name)?;
+        externals.push(ExternalName { name, weak })?;
     }
     let mut relocs = Vec::new(rt.alloc());
     if let Some(reloc) = field {
@@ -81,8 +82,8 @@ fn module(
     })
 }
 
-/// `BEGIN: MOVL X,R1` and `HALT` in CODE, which is aligned to longwords.
-fn user_of_x(rt: &HostRuntime) -> Result<Module, Fail> {
+/// `BEGIN: MOVL X,R1` and `HALT` in CODE, which is aligned to longwords. X may be weak.
+fn user_of(rt: &HostRuntime, weak: bool) -> Result<Module, Fail> {
     let code = section(rt, b"CODE", 4, false, &[0xD0, 0xEF, 0, 0, 0, 0, 0x51, 0])?;
     let field = Reloc {
         section: 1,
@@ -90,7 +91,12 @@ fn user_of_x(rt: &HostRuntime) -> Result<Module, Fail> {
         kind: RelocKind::RelLong,
         target: OTHER,
     };
-    module(rt, code, Some(HERE), None, Some(b"X"), Some(field))
+    let x = Some((b"X".as_slice(), weak));
+    module(rt, code, Some(HERE), None, x, Some(field))
+}
+
+fn user_of_x(rt: &HostRuntime) -> Result<Module, Fail> {
+    user_of(rt, false)
 }
 
 /// A name at offset 1 of DATA, and one byte of CODE.
@@ -363,13 +369,78 @@ fn refuses_names_that_lead_in_a_circle(rt: HostRuntime) -> Result<(), Fail> {
     let mut modules = Vec::new(rt.alloc());
     let code = section(&rt, b"CODE", 1, true, &[0])?;
     let x = Some((b"X".as_slice(), OTHER));
-    modules.push(module(&rt, code, Some(HERE), x, Some(b"Y"), None)?)?;
+    let y = Some((b"Y".as_slice(), false));
+    modules.push(module(&rt, code, Some(HERE), x, y, None)?)?;
     assert!(rt; is_refused(&joined(&rt, &modules, Base::User)?, 1, b"Y"));
     // Y stands for X, which stands for Y.
     let data = section(&rt, b"DATA", 1, true, &[0])?;
     let y = Some((b"Y".as_slice(), OTHER));
-    modules.push(module(&rt, data, None, y, Some(b"X"), None)?)?;
+    let x = Some((b"X".as_slice(), false));
+    modules.push(module(&rt, data, None, y, x, None)?)?;
     assert!(rt; is_refused(&joined(&rt, &modules, Base::User)?, 1, b"Y"));
+    Ok(())
+}
+
+#[test]
+fn takes_weak_names_for_0(rt: HostRuntime) -> Result<(), Fail> {
+    let mut modules = Vec::new(rt.alloc());
+    modules.push(user_of(&rt, true)?)?;
+    // Nothing defines X: the displacement is 0 - 206.
+    let image = joined(&rt, &modules, Base::User)??;
+    let code = [0xD0, 0xEF, 0xFA, 0xFD, 0xFF, 0xFF, 0x51, 0];
+    assert!(rt; has_areas(&image, &[(1, 15, code.as_slice())]));
+    // A module that needs X refuses all the same.
+    let part = section(&rt, b"OTHER", 1, true, &[0])?;
+    let x = Some((b"X".as_slice(), false));
+    modules.push(module(&rt, part, None, None, x, None)?)?;
+    assert!(rt; is_refused(&joined(&rt, &modules, Base::User)?, 1, b"X"));
+    // The definition of a module is X's: 401 - 206.
+    let mut modules = Vec::new(rt.alloc());
+    modules.push(user_of(&rt, true)?)?;
+    modules.push(owner_of(&rt, b"X")?)?;
+    let image = joined(&rt, &modules, Base::User)??;
+    let code = [0xD0, 0xEF, 0xFB, 1, 0, 0, 0x51, 0, 1];
+    assert!(rt;
+        has_areas(
+            &image,
+            &[(1, 15, code.as_slice()), (2, 4, [7, 8].as_slice())]
+        )
+    );
+    Ok(())
+}
+
+#[test]
+fn adds_to_weak_names(rt: HostRuntime) -> Result<(), Fail> {
+    let mut modules = Vec::new(rt.alloc());
+    // X stands for a weak Y and 3.
+    let beside = Value::External {
+        index: 0,
+        offset: 3,
+    };
+    let part = section(&rt, b"PART", 1, true, &[9])?;
+    let x = Some((b"X".as_slice(), beside));
+    let y = Some((b"Y".as_slice(), true));
+    modules.push(module(&rt, part, Some(HERE), x, y, None)?)?;
+    // A longword is X and 2.
+    let field = Reloc {
+        section: 1,
+        offset: 0,
+        kind: RelocKind::Long,
+        target: Value::External {
+            index: 0,
+            offset: 2,
+        },
+    };
+    let data = section(&rt, b"DATA", 1, true, &[0; 4])?;
+    let x = Some((b"X".as_slice(), false));
+    modules.push(module(&rt, data, None, None, x, Some(field))?)?;
+    let image = joined(&rt, &modules, Base::User)??;
+    assert!(rt;
+        has_areas(
+            &image,
+            &[(1, 4, [9].as_slice()), (2, 4, [5, 0, 0, 0].as_slice())]
+        )
+    );
     Ok(())
 }
 

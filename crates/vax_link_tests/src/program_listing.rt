@@ -69,11 +69,43 @@ NAMES
 ENTRY 00000200
 ";
 
-/// The listing of a source.
-fn listing_of(rt: &HostRuntime, source: &str) -> Result<Vec<u8>, ListingError> {
+/// Offsets in an absolute section, which has no bytes.
+const OFFSETS: &str = "        .PSECT BLOCK,ABS
+FIRST:  .BLKL 3
+NEXT:   .BLKB
+        .PSECT CODE
+S:      MOVB NEXT(R1),R0
+        .END S
+";
+
+const OFFSETS_LISTING: &str = "MODULE 1
+     1 00000000                                  .PSECT BLOCK,ABS
+     2 00000000                          FIRST:  .BLKL 3
+     3 0000000C                          NEXT:   .BLKB
+     4 00000200                                  .PSECT CODE
+     5 00000200 90 A1 0C 50              S:      MOVB NEXT(R1),R0
+     6 00000204                                  .END S
+SECTIONS
+00000200      0 WRT   . BLANK .
+00000200      0 WRT   BLOCK
+00000200      4 WRT   CODE
+NAMES
+00000000 ABS        FIRST
+0000000C ABS        NEXT
+00000200 REL        S
+ENTRY 00000200
+";
+
+/// The listing of a source in a dialect.
+fn listing_in(rt: &HostRuntime, dialect: Dialect, source: &str) -> Result<Vec<u8>, ListingError> {
     let file = Vec::from_slice(rt.alloc(), source.as_bytes())?;
     let files = vec![in rt.alloc(); file]?;
-    list_sources(rt.alloc(), Dialect::Vax, Base::User, &files)
+    list_sources(rt.alloc(), dialect, Base::User, &files)
+}
+
+/// The listing of a source.
+fn listing_of(rt: &HostRuntime, source: &str) -> Result<Vec<u8>, ListingError> {
+    listing_in(rt, Dialect::Vax, source)
 }
 
 #[test]
@@ -89,6 +121,13 @@ fn lists_what_stands_behind_a_label_before_the_end_of_a_repeat(
 ) -> Result<(), Fail> {
     let text = listing_of(&rt, REPEAT)?;
     assert!(rt; text.as_slice() == REPEAT_LISTING.as_bytes());
+    Ok(())
+}
+
+#[test]
+fn lists_offsets_without_bytes(rt: HostRuntime) -> Result<(), Fail> {
+    let text = listing_in(&rt, Dialect::Vms, OFFSETS)?;
+    assert!(rt; text.as_slice() == OFFSETS_LISTING.as_bytes());
     Ok(())
 }
 

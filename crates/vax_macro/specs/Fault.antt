@@ -1,7 +1,7 @@
 -- The numbers of the kinds of faults.
 use Rattle.std.specs.Prelude.{ℕ}
 use Rattle.vax_macro.specs.declared.error.FaultKind.{FaultKind}
-use Rattle.vax_macro.specs.declared.error.FaultKind.TheVariants.{Token, UnknownOperator, Count, Form, Undefined, Duplicate, Range, Nesting, Depth, Lines, Large}
+use Rattle.vax_macro.specs.declared.error.FaultKind.TheVariants.{Token, UnknownOperator, Count, Form, Undefined, Duplicate, Range, Nesting, Depth, Lines, Large, Message}
 
 abbrev pub code_of : FaultKind → ℕ
 code_of Token = 1
@@ -15,3 +15,4 @@ code_of Nesting = 8
 code_of Depth = 9
 code_of Lines = 10
 code_of Large = 11
+code_of Message = 12

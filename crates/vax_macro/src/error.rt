@@ -27,6 +27,9 @@ pub enum FaultKind {
     Lines,
     #[error("a section or the module is too long")]
     Large,
+    /// A line that says so itself, by `.ERROR`.
+    #[error("the source says that it is wrong here")]
+    Message,
 }
 
 impl FaultKind {
@@ -49,6 +52,7 @@ impl FaultKind {
             FaultKind::Depth => 9,
             FaultKind::Lines => 10,
             FaultKind::Large => 11,
+            FaultKind::Message => 12,
         }
     }
 }

@@ -184,7 +184,9 @@ impl Expander {
     #[tactic(auto, using(crate::proofs::Lessening::turned_less))]
     fn turn(&mut self, line: &Reading, text: Vec<u8>) -> Result<(), NoMemory>
         ensures rest { OnOk result (rest_of self.new
-            ≡ record (rest_of self.old) { again = Some (turned text.items (reading_of line.now)) }) }
+            ≡ record (rest_of self.old) {
+              again = Some (turned text.items (reading_of line.now));
+            }) }
         ensures error { self.new.error ≡ self.old.error }
         ensures unclosed { self.new.unclosed ≡ self.old.unclosed }
         ensures fewer { OnOk result (weight (rest_of self.new).again ≤ left_of line.now) }

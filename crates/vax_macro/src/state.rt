@@ -236,8 +236,9 @@ impl State {
     ) -> Result<(), NoMemory>
         requires { All (λ t. length t.items ≤ 1024) lines.items }
         ensures { OnOk result
-            (Becomes (with_expansion depth (lines_for_each formal.items (texts_view lines) number depth
-            (texts_view texts))) self.old self.new) }
+            (Becomes (with_expansion depth
+            (lines_for_each formal.items (texts_view lines) number depth (texts_view texts)))
+            self.old self.new) }
     {
         let formals = one_formal(alloc, formal)?;
         let kept = template(alloc, formals, lines)?;

@@ -419,8 +419,7 @@ fn nothing_given(alloc: Global, count: usize) -> Result<Vec<Option<Vec<u8>>>, No
     ensures { IfOk result (λ v. given_view v ≡ replicate count None) }
 {
     let mut given = Vec::new(alloc);
-    for place in 0..count {
-        let _ = place;
+    for _ in 0..count {
         given.push(None).map_err(|_| NoMemory)?;
     }
     Ok(given)

@@ -23,8 +23,8 @@ pub fn statements_follow_their_lines()
 pub fn labels_are_handed_out_once()
     ensures { (names other : Sense) → (before between after : Rest)
         → (label st : Statement) → (line : Remainder) →
-        step names before ≡ Says label between → between.again ≡ Some line → step other between ≡ Says st after →
-        after.again ≡ None }
+        step names before ≡ Says label between → between.again ≡ Some line →
+        step other between ≡ Says st after → after.again ≡ None }
 {}
 
 /// A source of which nothing was opened is of its own lines.

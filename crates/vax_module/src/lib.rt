@@ -33,6 +33,15 @@ pub struct Symbol {
     pub value: Value,
 }
 
+/// A name that another module may define.
+#[derive(Drop)]
+pub struct ExternalName {
+    /// The name in capitals.
+    pub name: Bytes,
+    /// Whether its value is 0 where no module defines it. Any other name must be defined.
+    pub weak: bool,
+}
+
 /// A field that the linker fills in, by its width and by what it holds.
 #[derive(Clone, Copy, PartialEq, Eq)]
 pub enum RelocKind {
@@ -81,8 +90,8 @@ pub struct Module {
     pub sections: Items<Section>,
     /// The names that other modules may use, in the order in which they first appear.
     pub globals: Items<Symbol>,
-    /// The names in capitals that another module must define, in the order in which they first appear.
-    pub externals: Items<Bytes>,
+    /// The names that nothing here defines, in the order in which they first appear.
+    pub externals: Items<ExternalName>,
     /// In the order of section and offset.
     pub relocs: Items<Reloc>,
     /// The name that `.END` gives, at which the program begins.

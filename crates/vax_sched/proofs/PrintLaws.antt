@@ -12,7 +12,7 @@ use Rattle.vax_lines.specs.Lines.{Text, lines, begun}
 use Rattle.vax_lines.specs.Words.{words, longer, is_trimmed}
 use Rattle.std.specs.Str.{bytes_eq}
 use Rattle.vax_lines.specs.Numbers.{number, number_in, are_digits}
-use Rattle.vax_sched.specs.Rules.{page, target, rule_of, is_silent, line_of, says, readings, rules}
+use Rattle.vax_sched.specs.Rules.{page, target, rule_of, is_silent, line_of, says, readings}
 use Rattle.vax_lines.proofs.WordLaws.{words-longer, words-alone}
 use Rattle.vax_sched.specs.Printed.{page_text, target_text, at_line, rule_line, printed}
 use Rattle.vax_sched.specs.Kept.{is_proper, is_page}

@@ -3,7 +3,7 @@ use Rattle.std.proofs.Common.{◌≡◌, ◌<◌, ◌≤◌, ℕ, ◌+◌, true,
 use Rattle.std.proofs.Math.Seq.{drop-cons}
 use Rattle.std.proofs.lemmas.List.{take_more, take_all, length-drop, append-nil}
 use Rattle.std.proofs.lemmas.List.Elements.{filter_map-append, All-push}
-use Rattle.std.specs.List.{filter_map, All}
+use Rattle.std.specs.List.{filter_map}
 use Rattle.vax_space.specs.declared.Area.{Area}
 use Rattle.vax_lines.specs.Lines.{Text, lines}
 use Rattle.vax_sched.specs.Rules.{Reading, silent, says, malformed, line_of, readings, rule_in, rules}

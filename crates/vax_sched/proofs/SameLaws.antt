@@ -1,5 +1,5 @@
 -- The rules of a schedule have no fault where they are printed and read again.
-use Rattle.std.proofs.Common.{◌≡◌, ◌<◌, ◌≤◌, ℕ, ◌+◌, true, false, not, Bool, List, [], ◌∷◌, ◌++◌, None, length, map, take, drop, get_or, zero, suc, refl, sym, ap, ◌∙◌, arith, nat_lt, length-append, subst}
+use Rattle.std.proofs.Common.{◌≡◌, ◌<◌, ◌≤◌, ℕ, ◌+◌, true, false, Bool, List, [], ◌∷◌, ◌++◌, None, length, map, take, drop, get_or, zero, suc, refl, sym, ap, ◌∙◌, arith, nat_lt, length-append, subst}
 use Rattle.std.specs.List.{list_any, filter_map}
 use Rattle.std.proofs.lemmas.Bool.Decides.{nat_tests}
 use Rattle.std.proofs.lemmas.List.{take-map, get_or-map, length-map, take-append-drop}

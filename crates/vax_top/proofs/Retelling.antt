@@ -1,11 +1,11 @@
 -- Faults of the text of a source, told where they are.
-use Rattle.std.proofs.Common.{◌≡◌, ◌⊎◌, inl, inr, ℕ, List, Result, Ok, Err, refl, ap, sym, ◌∙◌}
+use Rattle.std.proofs.Common.{◌≡◌, ◌⊎◌, inl, inr, ℕ, List, Result, Ok, refl, ap, ◌∙◌}
 use Rattle.vax_command.specs.declared.status.Status.{Status}
 use Rattle.vax_command.specs.declared.status.Status.TheVariants.{NoMemory}
 use Rattle.vax_prelude.specs.Preludes.{InPrelude as AtPrelude, InSource, Place, Prelude, told_at}
 use Rattle.vax_program.specs.Program.{InImage, InPrelude, Link, Refusal, Source}
 use Rattle.vax_top.specs.Loaded.{IsRefused, placed, placed_as, refused_as, told_in, told_of}
-use Rattle.vax_top.specs.LoadedView.{Loads, retold}
+use Rattle.vax_top.specs.LoadedView.{retold}
 
 -- the answer to a refusal, told again, is the answer to the refusal that is told there
 placed_so : (file kind : ℕ) (place : Place) → placed_as file kind place ≡ refused_as (placed file kind place)

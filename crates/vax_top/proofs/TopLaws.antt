@@ -35,7 +35,7 @@ use Rattle.vax_command.specs.Saving.{AnswersSave, HasSavedRun, IsSaving, SaveWen
 use Rattle.vax_command.specs.Wanting.{HasSaved, ReadsWanted, Wanted, WantedEnds, plain}
 use Rattle.vax_command.specs.Status.{refusal, refusal_growth}
 use Rattle.vax_top.specs.Resumed.{ResumeDoes}
-use Rattle.vax_top.specs.Top.{AskedComes, Carries, CarriesAsked, Comes, CommandComes, DebugDoes, Does, ImageDoes, IsAbout, IsDebugOf, IsFile, IsListing, IsSourceListing, IsRunOf, IsSessionOf, IsWriting, IsSavedOf, IsUnread, RanOf, RunDoes, SaveDoes, SessionDoes, TogetherDo, TraceDoes, base_for, reads_of, run_of, saved_of, session_of, session_programs, wanted_of}
+use Rattle.vax_top.specs.Top.{AskedComes, Carries, CarriesAsked, Comes, CommandComes, DebugDoes, Does, ImageDoes, IsAbout, IsDebugOf, IsFile, IsLegend, IsListing, IsSourceListing, IsRunOf, IsSessionOf, IsWriting, IsSavedOf, IsUnread, RanOf, RunDoes, SaveDoes, SessionDoes, TogetherDo, TraceDoes, base_for, reads_of, run_of, saved_of, session_of, session_programs, wanted_of}
 use Rattle.vax_top.specs.Vectors.{VectorsDo}
 use Rattle.vax_top.proofs.VectorLaws.{vectors_kept}
 use Rattle.vax_cli.specs.declared.vectors.VectorRequest.{VectorRequest}
@@ -58,12 +58,12 @@ use Rattle.vax_word.specs.declared.Core.{Core}
 use Rattle.vax_top.proofs.SourceLaws.{sources_built}
 use Rattle.vax_command.specs.Holding.{Held, HeldSo, IsHolding}
 use Rattle.vax_command.specs.SessionWent.{Opening, SessionFrom}
-use Rattle.vax_debug_names.specs.declared.Symbol.{Symbol}
-use Rattle.vax_debug_symbols.specs.Symbols.{AreSymbols}
+use Rattle.vax_debug_names.specs.declared.Legend.{Legend}
 use Rattle.vax_command_debug.specs.SessionEnd.{SessionEnd}
 use Rattle.vax_command_debug.specs.SessionEnd.TheVariants as end
 use Rattle.vax_command_debug.specs.Course as debug_course
 use Rattle.vax_command_debug.specs.Course.{Causes}
+use Rattle.vax_command_debug.proofs.CauseLaws.{session_ends}
 use Rattle.vax_command_debug.specs.Debugging.{Debugged, DebugsSo, Given, IsDebugging, given, terms_of}
 
 -- what running the programs of files came to
@@ -99,21 +99,21 @@ module _ (outside : Outside) (loaded : Result Loaded Refusal) (texts : Texts) (o
 
 -- what a session with a debugger came to
 
-abbrev pub DebuggedOf : Outside → Change (List Text) → Result Loaded Refusal → (AreNamed : List Symbol → Type 0) → Texts → Bool → Options → Status → Type 0
-DebuggedOf outside lines loaded AreNamed texts prompts options result = EndsSo outside.sink (IsDebugOf outside lines loaded AreNamed texts prompts options) result
+abbrev pub DebuggedOf : Outside → Change (List Text) → Result Loaded Refusal → (Tells : Legend → Type 0) → Texts → Bool → Options → Status → Type 0
+DebuggedOf outside lines loaded Tells texts prompts options result = EndsSo outside.sink (IsDebugOf outside lines loaded Tells texts prompts options) result
 
-module _ (outside : Outside) (lines : Change (List Text)) (loaded : Result Loaded Refusal) (AreNamed : List Symbol → Type 0) (texts : Texts) (prompts : Bool) (options : Options) (result : Status) where
-  pub debug_refused : (status : Status) → IsRefused loaded status ⊎ (status ≡ NoMemory) → outside.pages.same → lines.same → Ends outside.sink status (refusal_growth status) result → DebuggedOf outside lines loaded AreNamed texts prompts options result
+module _ (outside : Outside) (lines : Change (List Text)) (loaded : Result Loaded Refusal) (Tells : Legend → Type 0) (texts : Texts) (prompts : Bool) (options : Options) (result : Status) where
+  pub debug_refused : (status : Status) → IsRefused loaded status ⊎ (status ≡ NoMemory) → outside.pages.same → lines.same → Ends outside.sink status (refusal_growth status) result → DebuggedOf outside lines loaded Tells texts prompts options result
   debug_refused status (inl r) k l ends = record { meant = status; grown = refusal_growth status; so = inr (inl (record { refused = r; wrote = refl; keeps = k }, l)); ends = ends }
   debug_refused status (inr e) k l ends = record { meant = status; grown = refusal_growth status; so = inl (e, ap refusal_growth e, k); ends = ends }
 
-  as_debugged : (program : Loaded) (symbols : List Symbol) (status : Status) (grown : Channels) → loaded ≡ Ok program → AreNamed symbols → IsDebugging outside lines program (given texts.input texts.schedule symbols prompts) options status grown
-      → IsDebugOf outside lines loaded AreNamed texts prompts options status grown
-  as_debugged program symbols status grown is named (inl e) = inl e.0
-  as_debugged program symbols status grown is named (inr d) = inr (inr (program, is, symbols, named, d))
+  as_debugged : (program : Loaded) (legend : Legend) (status : Status) (grown : Channels) → loaded ≡ Ok program → Tells legend → IsDebugging outside lines program (given texts.input texts.schedule legend prompts) options status grown
+      → IsDebugOf outside lines loaded Tells texts prompts options status grown
+  as_debugged program legend status grown is named (inl e) = inl e.0
+  as_debugged program legend status grown is named (inr d) = inr (inr (program, is, legend, named, d))
 
-  pub debug_held : (program : Loaded) (symbols : List Symbol) → loaded ≡ Ok program → AreNamed symbols → Debugged outside lines program (given texts.input texts.schedule symbols prompts) options result → DebuggedOf outside lines loaded AreNamed texts prompts options result
-  debug_held program symbols is named r = record { meant = r.meant; grown = r.grown; so = as_debugged program symbols r.meant r.grown is named r.so; ends = r.ends }
+  pub debug_held : (program : Loaded) (legend : Legend) → loaded ≡ Ok program → Tells legend → Debugged outside lines program (given texts.input texts.schedule legend prompts) options result → DebuggedOf outside lines loaded Tells texts prompts options result
+  debug_held program legend is named r = record { meant = r.meant; grown = r.grown; so = as_debugged program legend r.meant r.grown is named r.so; ends = r.ends }
 
 -- what a run that is saved came to
 
@@ -170,14 +170,14 @@ module _ (seen : Around) where
 
     -- a session with a debugger was held, or refused
     debug_comes : (names : List Text) (linked : words_base.Base) (prompts : Bool) (options : Options) (texts : Texts) (status : Status) (grown : Channels) → HasTexts seen.files.before.told names options None texts
-        → IsDebugOf (outside_of seen) seen.lines (session_programs seen.preludes options.dialect linked texts) (AreSymbols options.dialect (base_for linked) (joined_files seen.preludes texts.programs)) texts prompts options status grown
+        → IsDebugOf (outside_of seen) seen.lines (session_programs seen.preludes options.dialect linked texts) (IsLegend options.dialect (base_for linked) seen.preludes names texts.programs) texts prompts options status grown
         → CommandComes seen (debug names linked prompts options) status grown
     debug_comes names linked prompts options texts status grown h (inl e) = no_memory (debug names linked prompts options) status grown e
     debug_comes names linked prompts options texts status grown h (inr d) =
-        inr (h.files, h.read, subst (λ (t : Texts). DebugDoes (outside_of seen) seen.lines (session_programs seen.preludes options.dialect linked t) (AreSymbols options.dialect (base_for linked) (joined_files seen.preludes t.programs)) t prompts options status grown) (sym h.are) d)
+        inr (h.files, h.read, subst (λ (t : Texts). DebugDoes (outside_of seen) seen.lines (session_programs seen.preludes options.dialect linked t) (IsLegend options.dialect (base_for linked) seen.preludes names t.programs) t prompts options status grown) (sym h.are) d)
 
     pub debug_carries : (names : List Text) (linked : words_base.Base) (prompts : Bool) (options : Options) (texts : Texts) → HasTexts seen.files.before.told names options None texts
-        → DebuggedOf (outside_of seen) seen.lines (session_programs seen.preludes options.dialect linked texts) (AreSymbols options.dialect (base_for linked) (joined_files seen.preludes texts.programs)) texts prompts options result
+        → DebuggedOf (outside_of seen) seen.lines (session_programs seen.preludes options.dialect linked texts) (IsLegend options.dialect (base_for linked) seen.preludes names texts.programs) texts prompts options result
         → Carries seen (debug names linked prompts options) result
     debug_carries names linked prompts options texts h r = record { meant = r.meant; grown = r.grown; comes = debug_comes names linked prompts options texts r.meant r.grown h r.so; ends = r.ends }
 
@@ -419,6 +419,7 @@ module _ (seen : Around) (names : Text × FilesFault → Type 0) (grown : Channe
   ended_allowed : (e : SessionEnd) (status : Status) → status ≡ debug_course.answer_of e → Causes e (outside_of seen) seen.lines → Allowed seen names grown status
   ended_allowed end.Quit status is cause = subst (Allowed seen names grown) (sym is) tt
   ended_allowed end.Save status is cause = absurd cause
+  ended_allowed end.Restart status is cause = subst (Allowed seen names grown) (sym is) tt
   ended_allowed end.Read status is cause = subst (Allowed seen names grown) (sym is) tt
   ended_allowed end.Lines status is cause = subst (Allowed seen names grown) (sym is) tt
   ended_allowed end.Turns status is cause = subst (Allowed seen names grown) (sym is) tt
@@ -430,23 +431,21 @@ module _ (seen : Around) (names : Text × FilesFault → Type 0) (grown : Channe
   saved_allowed status (inl is) = subst (Allowed seen names grown) (sym is) tt
   saved_allowed status (inr w) = subst (Allowed seen names grown) (sym w.1) w.0
 
-  saved_here_allowed : (X Y : Type 0) (status : Status) → ((status ≡ Done) × X) ⊎ (HasFailed seen.pages × (status ≡ PageFault) × Y) → Allowed seen names grown status
-  saved_here_allowed X Y status (inl w) = subst (Allowed seen names grown) (sym w.0) tt
-  saved_here_allowed X Y status (inr w) = subst (Allowed seen names grown) (sym w.1) w.0
+  session_ended_allowed : (status : Status) → ((e : SessionEnd) × (status ≡ debug_course.answer_of e) × Causes e (outside_of seen) seen.lines) ⊎ AnswersSave seen.pages Done status grown → Allowed seen names grown status
+  session_ended_allowed status (inl w) = ended_allowed w.0 status w.1 w.2
+  session_ended_allowed status (inr w) = saved_allowed status w
 
   debug_went_allowed : (told : Option BlockFile) (program : Loaded) (g : Given) (options : Options) (status : Status) → debug_course.WentFrom told (outside_of seen) seen.lines (Start program.system program.user g.input) (terms_of g options) status grown → Allowed seen names grown status
-  debug_went_allowed None program g options status (inl w) = let ended = w.1 in ended_allowed w.0 status ended.answer ended.cause
-  debug_went_allowed None program g options status (inr w) = saved_allowed status w.answer
-  debug_went_allowed (Some file) program g options status (inl w) = let ended = w.1 in ended_allowed w.0 status ended.answer ended.cause
-  debug_went_allowed (Some file) program g options status (inr w) = saved_here_allowed _ _ status w.saves
+  debug_went_allowed told program g options status w =
+      session_ended_allowed status (session_ends (outside_of seen) seen.lines told (Start program.system program.user g.input) (terms_of g options) status grown w)
 
   debugs_allowed : (program : Loaded) (given : Given) (options : Options) (status : Status) → DebugsSo (outside_of seen) seen.lines program given options status grown → Allowed seen names grown status
   debugs_allowed program given options status (inl m) = let fault = m.0 in planned_allowed _ given.schedule status fault.fault fault.wrote
   debugs_allowed program given options status (inr r) = debug_went_allowed seen.pages.before.told program given options status r.went
 
-  debug_allowed : (loaded : Result Loaded Refusal) (AreNamed : List Symbol → Type 0) (texts : Texts) (prompts : Bool) (options : Options) (status : Status) → DebugDoes (outside_of seen) seen.lines loaded AreNamed texts prompts options status grown → Allowed seen names grown status
-  debug_allowed loaded AreNamed texts prompts options status (inl r) = let turned = r.0 in refused_allowed loaded status turned.refused turned.wrote
-  debug_allowed loaded AreNamed texts prompts options status (inr d) = debugs_allowed d.0 (given texts.input texts.schedule d.2 prompts) options status d.4
+  debug_allowed : (loaded : Result Loaded Refusal) (Tells : Legend → Type 0) (texts : Texts) (prompts : Bool) (options : Options) (status : Status) → DebugDoes (outside_of seen) seen.lines loaded Tells texts prompts options status grown → Allowed seen names grown status
+  debug_allowed loaded Tells texts prompts options status (inl r) = let turned = r.0 in refused_allowed loaded status turned.refused turned.wrote
+  debug_allowed loaded Tells texts prompts options status (inr d) = debugs_allowed d.0 (given texts.input texts.schedule d.2 prompts) options status d.4
 
   answer_allowed : (why : Why) → Allowed seen names grown (answer_of why)
   answer_allowed (ByEnding ending) = tt
@@ -559,7 +558,7 @@ module _ (seen : Around) (grown : Channels) where
       let texts = texts_of (length names) options (Some script) files in console_allowed seen (Unread seen (wanted_of (console names linked script options))) grown (session_programs seen.preludes options.dialect linked texts) texts options status d
   carried_allowed (debug names linked prompts options) files status d =
       let texts = texts_of (length names) options None files in
-      debug_allowed seen (Unread seen (wanted_of (debug names linked prompts options))) grown (session_programs seen.preludes options.dialect linked texts) (AreSymbols options.dialect (base_for linked) (joined_files seen.preludes texts.programs)) texts prompts options status d
+      debug_allowed seen (Unread seen (wanted_of (debug names linked prompts options))) grown (session_programs seen.preludes options.dialect linked texts) (IsLegend options.dialect (base_for linked) seen.preludes names texts.programs) texts prompts options status d
   carried_allowed (trace names linked tracing options) files status d =
       let texts = texts_of (length names) options None files in trace_allowed seen (Unread seen (wanted_of (trace names linked tracing options))) grown (session_programs seen.preludes options.dialect linked texts) texts tracing options status d
   carried_allowed (work seed size options) files status d = does_allowed seen (Unread seen (plain (of_options options None))) grown _ _ _ options status d

@@ -1,5 +1,5 @@
 -- What a call of the program comes to.
-use Rattle.std.specs.Prelude.{◌≡◌, ◌⊎◌, ℕ, Bool, true, false, List, [], ◌∷◌, ◌++◌, length, Option, None, Some, MatchOption, Result, Ok, Err}
+use Rattle.std.specs.Prelude.{◌≡◌, ◌⊎◌, ℕ, Bool, true, false, List, [], ◌∷◌, ◌++◌, length, map, Option, None, Some, MatchOption, Result, Ok, Err}
 use Rattle.std.specs.Option.{option_map}
 use Rattle.vax_outside.specs.Channels.{Channels, only}
 use Rattle.vax_outside.specs.Blocks.{BlockFile}
@@ -19,6 +19,7 @@ use Rattle.vax_image.specs.declared.Image.{Image}
 use Rattle.vax_outside.specs.Directory.{Directory}
 use Rattle.vax_outside.specs.declared.traits.FilesFault.{FilesFault}
 use Rattle.vax_prelude.specs.Preludes.{Prelude, preludes_of, titles_of}
+use Rattle.vax_prelude.specs.View.{preludes_seen}
 use Rattle.vax_program.specs.Program.{Refusal}
 use Rattle.vax_listing.specs.Listing.{listing}
 use Rattle.vax_asm_listing.specs.Listed as listed
@@ -38,8 +39,9 @@ use Rattle.vax_command.specs.Jobs.{JobsRunSo, JobsTexts, Users, jobs_files, jobs
 use Rattle.vax_top.specs.Together.{together_for}
 use Rattle.vax_command.specs.Holding.{HeldSo}
 use Rattle.vax_command.specs.Tracing.{TracesSo}
-use Rattle.vax_debug_names.specs.declared.Symbol.{Symbol}
-use Rattle.vax_debug_symbols.specs.Symbols.{AreSymbols}
+use Rattle.vax_debug_names.specs.declared.Legend.{Legend}
+use Rattle.vax_debug_symbols.specs.Symbols.{IsTable}
+use Rattle.vax_debug_symbols.specs.declared.Table.{Table}
 use Rattle.vax_command_debug.specs.Debugging.{DebugsSo, given}
 use Rattle.vax_command.specs.Status.{refusal_growth}
 use Rattle.vax_command.specs.declared.status.Status.{Status}
@@ -96,12 +98,22 @@ SessionDoes outside loaded texts options status grown =
     IsTurnedAway outside.pages loaded status grown
     ⊎ ((program : Loaded) × (loaded ≡ Ok program) × HeldSo outside program texts.input texts.schedule texts.script options status grown)
 
--- a session with a debugger: it is held on any other program with symbols that these are, unless its schedule has a fault; no line is taken before
-abbrev pub DebugDoes : Outside → Change (List Text) → Result Loaded Refusal → (AreNamed : List Symbol → Type 0) → Texts → Bool → Options → Status → Channels → Type 0
-DebugDoes outside lines loaded AreNamed texts prompts options status grown =
+-- What a program is told by, of these files, before each of whose sources these preludes stand: the names of the files, and the symbols and the lines of the
+-- sources, as they are assembled and linked.
+pub record IsLegend (dialect : Dialect) (region : Base) (preludes : List Prelude) (names files : List Text) (legend : Legend) : Type 0 where
+  pub table : Table
+  pub is : IsTable dialect region (joined_files preludes files) table
+  pub symbols : legend.symbols.now ≡ table.symbols.items
+  pub lines : legend.lines.now ≡ table.lines.items
+  pub named : map (λ name. name.now) legend.names.now ≡ names
+  pub behind : preludes_seen legend.preludes.now ≡ preludes
+
+-- a session with a debugger: it is held on any other program, which is told by such a legend, unless its schedule has a fault; no line is taken before
+abbrev pub DebugDoes : Outside → Change (List Text) → Result Loaded Refusal → (Tells : Legend → Type 0) → Texts → Bool → Options → Status → Channels → Type 0
+DebugDoes outside lines loaded Tells texts prompts options status grown =
     (IsTurnedAway outside.pages loaded status grown × lines.same)
-    ⊎ ((program : Loaded) × (loaded ≡ Ok program) × (symbols : List Symbol) × AreNamed symbols
-    × DebugsSo outside lines program (given texts.input texts.schedule symbols prompts) options status grown)
+    ⊎ ((program : Loaded) × (loaded ≡ Ok program) × (legend : Legend) × Tells legend
+    × DebugsSo outside lines program (given texts.input texts.schedule legend prompts) options status grown)
 
 -- a traced run: any other program is run and its steps are listed, unless its schedule has a fault
 abbrev pub TraceDoes : Outside → Result Loaded Refusal → Texts → Tracing → Options → Status → Channels → Type 0
@@ -172,9 +184,9 @@ IsSessionOf outside loaded texts options status grown =
     LacksMemory outside.pages status grown ⊎ SessionDoes outside loaded texts options status grown
 
 -- a session with a debugger went so, or memory was refused before it
-abbrev pub IsDebugOf : Outside → Change (List Text) → Result Loaded Refusal → (AreNamed : List Symbol → Type 0) → Texts → Bool → Options → Status → Channels → Type 0
-IsDebugOf outside lines loaded AreNamed texts prompts options status grown =
-    LacksMemory outside.pages status grown ⊎ DebugDoes outside lines loaded AreNamed texts prompts options status grown
+abbrev pub IsDebugOf : Outside → Change (List Text) → Result Loaded Refusal → (Tells : Legend → Type 0) → Texts → Bool → Options → Status → Channels → Type 0
+IsDebugOf outside lines loaded Tells texts prompts options status grown =
+    LacksMemory outside.pages status grown ⊎ DebugDoes outside lines loaded Tells texts prompts options status grown
 
 -- a traced run went so, or memory was refused before it
 abbrev pub IsTraceOf : Outside → Result Loaded Refusal → Texts → Tracing → Options → Status → Channels → Type 0
@@ -251,7 +263,7 @@ Does preludes lines outside (console names linked script options) files status g
     session_of outside (session_programs preludes options.dialect linked) (texts_of (length names) options (Some script) files) options status grown
 Does preludes lines outside (debug names linked prompts options) files status grown =
     let texts = texts_of (length names) options None files in
-    DebugDoes outside lines (session_programs preludes options.dialect linked texts) (AreSymbols options.dialect (base_for linked) (joined_files preludes texts.programs)) texts prompts options status grown
+    DebugDoes outside lines (session_programs preludes options.dialect linked texts) (IsLegend options.dialect (base_for linked) preludes names texts.programs) texts prompts options status grown
 Does preludes lines outside (trace names linked tracing options) files status grown =
     trace_of outside (session_programs preludes options.dialect linked) (texts_of (length names) options None files) tracing options status grown
 Does preludes lines outside (vectors request) files status grown = VectorsDo outside.pages request status grown

@@ -1,12 +1,12 @@
 //! The command `debug`.
-ghost use Rattle.std.specs.Prelude.{◌≤◌, IfOk, length};
+ghost use Rattle.std.specs.Prelude.{◌≡◌, ◌≤◌, IfOk, length};
 ghost use Rattle.vax_cli.specs.Words.{debug};
 ghost use Rattle.vax_cli.specs.Said.{AreWithin, names_of, options as said_options};
 ghost use Rattle.vax_command.specs.Around.{around, beside, change, with_preludes};
 ghost use Rattle.vax_command.specs.Ends.{Admits};
 ghost use Rattle.vax_command.specs.ReadingView.{bytes_of, texts as texts_seen};
 ghost use Rattle.vax_command.specs.Loaded.{AreSound, loaded_seen};
-ghost use Rattle.vax_debug_symbols.specs.Symbols.{AreSymbols};
+ghost use Rattle.vax_debug_symbols.specs.Symbols.{IsTable};
 ghost use Rattle.vax_prelude.specs.View.{preludes_seen};
 ghost use Rattle.vax_top.specs.Loaded.{joined_files};
 ghost use Rattle.vax_top.specs.LoadedView.{Loads};
@@ -19,15 +19,15 @@ use std::alloc::Global;
 use vax_cli::{Base, Options};
 use vax_command::{Given, Programs, Status, load_run, refuse};
 use vax_command_debug::{Debuggee, debug_programs};
-use vax_debug_names::Symbol;
-use vax_debug_symbols::symbols_of_files;
+use vax_debug_names::Legend;
+use vax_debug_symbols::{Table, table_of_files};
 use vax_dialect::Dialect;
 use vax_input::Lines;
 use vax_outside::{Files, PageFile, Sink};
 use vax_prelude::Prelude;
 use vax_space::NoMemory;
 
-/// The programs of a session, and the symbols of its files.
+/// The programs of a session, and the symbols and the source lines of its files.
 fn load_named(
     alloc: Global,
     preludes: &[Prelude<'_>],
@@ -35,7 +35,7 @@ fn load_named(
     base: Base,
     texts: &[Vec<u8>],
     system: Option<Vec<u8>>,
-) -> Result<(Programs, Vec<Symbol>), Status>
+) -> Result<(Programs, Table), Status>
     requires some { 1 ≤ length texts.now }
     requires few { length texts.now ≤ 8 }
     ensures loads { Loads (λ r. loaded_seen r.0) result
@@ -43,16 +43,31 @@ fn load_named(
         (bytes_of system)) }
     ensures sound { IfOk result (λ r. AreSound r.0) }
     ensures named { IfOk result (λ r.
-        AreSymbols dialect (base_for base)
-        (joined_files (preludes_seen preludes.now) (texts_seen texts.now)) r.1.items) }
+        IsTable dialect (base_for base)
+        (joined_files (preludes_seen preludes.now) (texts_seen texts.now)) r.1) }
 {
     let programs = load_session(alloc, preludes, dialect, base, texts, system)?;
     let Ok(joined) = join_files(alloc, preludes, texts) else {
         return Err(Status::NoMemory);
     };
-    match symbols_of_files(alloc, dialect, base_for(base), &joined) {
-        Ok(symbols) => Ok((programs, symbols)),
+    match table_of_files(alloc, dialect, base_for(base), &joined) {
+        Ok(table) => Ok((programs, table)),
         Err(NoMemory) => Err(Status::NoMemory),
+    }
+}
+
+/// What a program is told by: the symbols and the source lines of its files, with their names and what stands before their sources.
+fn legend_of<'a>(table: &'a Table, names: &'a [&'a str], preludes: &'a [Prelude<'a>]) -> Legend<'a>
+    ensures symbols { result.symbols.now ≡ table.entry.now.symbols.items }
+    ensures lines { result.lines.now ≡ table.entry.now.lines.items }
+    ensures names { result.names.now ≡ names.entry.now }
+    ensures preludes { result.preludes.now ≡ preludes.entry.now }
+{
+    Legend {
+        symbols: &table.symbols,
+        lines: &table.lines,
+        names,
+        preludes,
     }
 }
 
@@ -93,10 +108,11 @@ pub(crate) fn run_debug<S: Files, L: Lines, K: Sink, F: PageFile>(
         ..
     } = given;
     match load_named(alloc, preludes, options.dialect, base, &texts, system) {
-        Ok((programs, symbols)) => {
+        Ok((programs, table)) => {
+            let legend = legend_of(&table, names, preludes);
             let debuggee = Debuggee {
                 programs: &programs,
-                symbols: &symbols,
+                legend: &legend,
                 input,
                 schedule: &schedule,
                 prompts,

@@ -1,5 +1,5 @@
 -- The accesses that are made, and what a tree comes to with them.
-use Rattle.std.proofs.Common.{◌≡◌, ℕ, Bool, Option, Some, None, Result, Ok, Err, List, [], ◌∷◌, ◌++◌, refl, ap, sym, subst, ◌∙◌}
+use Rattle.std.proofs.Common.{◌≡◌, ℕ, Bool, Option, Some, None, Result, Ok, Err, List, [], ◌∷◌, ◌++◌, refl, ap, sym, ◌∙◌}
 use Rattle.vax_space.specs.declared.Access.TheVariants.{Read, Write}
 use Rattle.vax_space.specs.declared.Violation.{Violation}
 use Rattle.vax_space.specs.Reference.{violation}
@@ -11,12 +11,12 @@ use Rattle.vax_flat.specs.Memory.{number, bytes_from}
 use Rattle.vax_flat.specs.State.{State}
 use Rattle.vax_flat.specs.Accesses.{Accesses, Done, Raises, Checks, Asks, Reads, Writes, ReadsRun, WritesRun, Leaf}
 use Rattle.vax_flat.specs.Outcome.{is_allowed}
-use Rattle.vax_flat.specs.OverPort.{Arrival, Comes, Stops, Present, Follows, Performs, over_port}
+use Rattle.vax_flat.specs.OverPort.{Arrival, Comes, Stops, Present, Follows, over_port}
 use Rattle.vax_flat.specs.OverPort as plain
 use Rattle.vax_flat.specs.Port.{View, first_absent, stop, with_number, with_run}
 use Rattle.vax_undo.specs.declared.entry.Entry.{Entry}
 use Rattle.vax_undo.specs.Blocks.{low_bytes}
-use Rattle.vax_undo.specs.Trail.{Made, NoneKept, Trail, Traced, Landing, Arrives, Breaks, FollowsTraced, after_writing, lands_on, noted, over_trail, reading, unless_forbidden, unless_hindered, unless_stopped, writing}
+use Rattle.vax_undo.specs.Trail.{Made, NoneKept, Trail, Traced, Landing, Arrives, Breaks, FollowsTraced, after_writing, noted, over_trail, reading, unless_forbidden, unless_hindered, unless_stopped, writing}
 use Rattle.vax_undo.specs.Transaction.{trail_back, trail_undone}
 
 -- what the ends of a tree come to

@@ -1,7 +1,7 @@
 use Rattle.std.proofs.Common.{List, sym, ap, ◌∙◌}
 use Rattle.vax_asm.proofs.Refused.{all_refused, of_line}
 use Rattle.vax_asm.proofs.Within.{all_within}
-use Rattle.vax_asm_statement.specs.Reading.{Parsed, body_seen, parsed}
+use Rattle.vax_asm_statement.specs.Reading.{parsed, statement_seen}
 use Rattle.vax_lex.specs.declared.token.Token.{Token}
 use Rattle.vax_asm.proofs.refusing.refusal.Goals as goal
 
@@ -14,9 +14,9 @@ pub returns-clause-exact : goal.returns-clause-exact
 returns-clause-exact c =
     let said = c.args.said.now in
     let tokens = c.deref.ensures.value ∙ c.in_ok-tokens.ensures.tokens in
-    of_line c.refusal_as.result said.dialect said.text.items c.deref-2.result.now c.deref-3.result.now (body_seen c.statement_of-statement.result.body)
+    of_line c.refusal_as.result said.dialect said.text.items c.deref-2.result.now c.deref-3.result.now (statement_seen c.statement_of-statement.result)
     c.deref-2.ensures.value (c.deref-3.ensures.value ∙ said.cut)
-    (ap (λ (p : Parsed). p.what) (c.statement_of-statement.ensures.statement ∙ ap (λ (l : List Token). parsed l) tokens))
+    (c.statement_of-statement.ensures.statement ∙ ap (λ (l : List Token). parsed l) tokens)
     c.refusal_as.ensures
 
 pub returns-clause-refused : goal.returns-clause-refused

@@ -11,4 +11,4 @@ returns-then-not-is_empty c =
     let cut : lines c.loop-line.rest.now ≡ line ∷ lines c.in-Some.behind.now = search rules in
     let some : 1 ≤ length name = search rules in
     let is = c.end_name-name.ensures ∙ ap (end_name line) (c.operation_of.ensures ∙ ap operation_of (c.deref.ensures.value ∙ c.in_ok-pieces.ensures)) in
-    start_found _ (lines c.in-Some.behind.now) line name _ cut is some c.loop-line.invariant
+    start_found c.args.dialect _ (lines c.in-Some.behind.now) line name _ cut is some c.loop-line.invariant

@@ -14,4 +14,4 @@ name_of-requires c =
 
 pub returns-in-None : goal.returns-in-None
 returns-in-None c =
-    no_name c.args.global c.args.line.now _ _ c.deref-part-items.result.now c.loop-part.part-index _ c.loop-part-test.true c.in-None.ensures c.loop-part.invariant
+    no_name c.args.linkage c.args.line.now _ _ c.deref-part-items.result.now c.loop-part.part-index _ c.loop-part-test.true c.in-None.ensures c.loop-part.invariant

@@ -6,5 +6,5 @@ use Rattle.vax_asm_labels.proofs.entries.appear_all.Given as goal
 
 abbrev pub invariant-loop-part : goal.invariant-loop-part
 invariant-loop-part l =
-    names_from l.global l.line (map (λ s. s.now) (drop l.part-index l.part-items)) (Some (scope_of l.scope))
-    ≡ names_from l.global l.line (parts l.operands) (Some (scope_of l.fn.scope))
+    names_from l.linkage l.line (map (λ s. s.now) (drop l.part-index l.part-items)) (Some (scope_of l.scope))
+    ≡ names_from l.linkage l.line (parts l.operands) (Some (scope_of l.fn.scope))

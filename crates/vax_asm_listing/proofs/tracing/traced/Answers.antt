@@ -11,7 +11,7 @@ use Rattle.vax_lex.specs.declared.value.Value.{Value}
 use Rattle.vax_macro.specs.Expanders.{OpensNext, rest_of}
 use Rattle.vax_macro.specs.declared.expander.Line.{Line}
 use Rattle.vax_macro.specs.Rest.{work}
-use Rattle.vax_asm_listing.proofs.Rows.{begun, opens_next}
+use Rattle.vax_asm_listing.proofs.Rows.{begun, ends_next, opens_next}
 use Rattle.vax_asm_listing.proofs.tracing.traced.Goals as goal
 
 pub statements-init : goal.statements-init
@@ -41,3 +41,14 @@ statements-preserved c =
       quiet = search rules;
       rows = c.in_ok-say-in-Ok-Some.ensures.rows c.args.dialect c.args.source.now (rest_of before) (rest_of after) (opens_next names before after a said origin same refl c.lines_read.ensures next) c.statements.invariant.rows;
     }
+
+pub returns-in-Ok-None-clause-trace : goal.returns-in-Ok-None-clause-trace
+returns-in-Ok-None-clause-trace c =
+    let before = c.statements.expander in
+    let after = c.next.new.self in
+    let s = c.statements.walk.standing in
+    let a = assembly_of s c.statements.walk.assignments in
+    let names : Sense = known_here s.dialect c.in-Ok-here.here (scope_of s.scope) in
+    let same : names ≡ names_in a.standing = ap (λ (here : Value). known_here s.dialect here (scope_of s.scope)) c.in-Ok-here.ensures in
+    let next = subst (λ (o : Option Line). OpensNext names (Ok o) before after) c.in-Ok-None.field-0-is (c.in-Ok-None.ensures.opens c.statements.invariant.quiet) in
+    c.end.ensures.trace c.args.dialect c.args.source.now (rest_of before) (ends_next names before after a same next) c.statements.invariant.rows

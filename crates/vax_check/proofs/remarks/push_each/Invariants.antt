@@ -8,4 +8,4 @@ use Rattle.vax_program.specs.View.{texts}
 use Rattle.vax_check.proofs.remarks.push_each.Given as goal
 
 abbrev pub invariant-loop-i : goal.invariant-loop-i
-invariant-loop-i l = (after : Text) → AreRemarked (asked_by l.wanted) (titles_of (preludes_seen l.files.preludes.now) (drop l.i l.files.names.now)) (texts (drop l.i l.files.texts.now)) l.out.items after → AreRemarked (asked_by l.wanted) (titles_of (preludes_seen l.files.preludes.now) l.files.names.now) (texts l.files.texts.now) l.fn.out.items after
+invariant-loop-i l = (after : Text) → AreRemarked l.files.dialect (asked_by l.wanted) (titles_of (preludes_seen l.files.preludes.now) (drop l.i l.files.names.now)) (texts (drop l.i l.files.texts.now)) l.out.items after → AreRemarked l.files.dialect (asked_by l.wanted) (titles_of (preludes_seen l.files.preludes.now) l.files.names.now) (texts l.files.texts.now) l.fn.out.items after

@@ -1,120 +1,66 @@
-use Rattle.std.proofs.Common.{inr, refl}
-use Rattle.vax_outside.proofs.Counting.{rose_then}
+use Rattle.std.proofs.Common.{◌≡◌, ◌-◌, ◌^◌, ◌∙◌, refl, sym, subst, arith}
+use Rattle.vax_image.specs.Start.{Start}
 use Rattle.vax_machine.specs.Meaning.{engine}
 use Rattle.vax_debug_session.specs.Holding.{terms}
-use Rattle.vax_command.specs.Around.{change, outside, seen_of}
-use Rattle.vax_command.proofs.Admitting.{admits_then, fault_admits, none_admits}
-use Rattle.vax_command_debug.proofs.DebugLaws.{counted_out, cut_off, lost, quit, read_out, saved, timed_out, unread}
+use Rattle.vax_debug_session.specs.Plan.{Plan}
+use Rattle.vax_command.specs.Around.{seen_of}
+use Rattle.vax_command.proofs.Admitting.{admits_then, none_admits}
+use Rattle.vax_command_debug.specs.Restarting.{hears}
+use Rattle.vax_command_debug.proofs.RestartLaws.{IsBehindRuns, behind_first, behind_then, quiet_first, quiet_then, refused, went_all, worn_out}
 use Rattle.vax_command_debug.proofs.session.hold_session.Goals as goal
 
-pub returns-in-Quit-clause-went : goal.returns-in-Quit-clause-went
-returns-in-Quit-clause-went g c = λ frames m f.
-    let seen = outside (change g.K.Sink.faults g.K.Sink.contents c.args.sink.now c.report_here.new.sink) (change g.F.PageFile.faults g.F.PageFile.contents c.args.pages.now c.hold.new.file) in
-    let lines = change g.L.Lines.faults g.L.Lines.rest c.args.lines.now c.hold.new.lines in
-    quit seen lines (terms c.args.setting.now.limits.now c.args.setting.now.symbols.now c.args.prompts) (engine c.args.machine) (engine c.hold.new.machine) frames m f c.requires.between
-    (seen_of g.K.Sink.faults g.K.Sink.contents c.hold.new.sink) c.report_here.result (c.in-Quit.ensures.written (λ x. cc))
-    (g.F.PageFile.contents c.args.pages.now) c.hold.ensures.only c.in-Quit.ensures.holds c.report_here.ensures
+pub loop-init : goal.loop-init
+loop-init g c =
+    let sink = seen_of g.K.Sink.faults g.K.Sink.contents c.args.sink.now in
+    let lines = seen_of g.L.Lines.faults g.L.Lines.rest c.args.lines.now in
+    record {
+      behind = subst (λ (z : Plan). IsBehindRuns (g.F.PageFile.contents c.args.pages.now) (terms c.args.setting.now.limits.now c.args.setting.now.legend.now c.args.prompts) (Start c.args.beginning.now.programs.now.system c.args.beginning.now.programs.now.user c.args.beginning.now.input.now) z 0 (hears (seen_of g.K.Sink.faults g.K.Sink.contents c.args.sink.now) (seen_of g.F.PageFile.faults g.F.PageFile.contents c.args.pages.now) (seen_of g.L.Lines.faults g.L.Lines.rest c.args.lines.now)) (hears (seen_of g.K.Sink.faults g.K.Sink.contents c.args.sink.now) (seen_of g.F.PageFile.faults g.F.PageFile.contents c.args.pages.now) (seen_of g.L.Lines.faults g.L.Lines.rest c.args.lines.now))) (sym c.new-breaks.ensures)
+          (behind_first (terms c.args.setting.now.limits.now c.args.setting.now.legend.now c.args.prompts) (Start c.args.beginning.now.programs.now.system c.args.beginning.now.programs.now.user c.args.beginning.now.input.now) sink (g.F.PageFile.faults c.args.pages.now) (g.F.PageFile.contents c.args.pages.now) lines);
+      quiet = quiet_first (hears (seen_of g.K.Sink.faults g.K.Sink.contents c.args.sink.now) (seen_of g.F.PageFile.faults g.F.PageFile.contents c.args.pages.now) (seen_of g.L.Lines.faults g.L.Lines.rest c.args.lines.now));
+      fresh = c.requires.fresh;
+      between = c.requires.between;
+    }
 
-pub returns-in-Save-clause-went : goal.returns-in-Save-clause-went
-returns-in-Save-clause-went g c = λ frames m f.
-    let seen = outside (change g.K.Sink.faults g.K.Sink.contents c.args.sink.now c.save_here.new.sink) (change g.F.PageFile.faults g.F.PageFile.contents c.args.pages.now c.save_here.new.pages) in
-    let lines = change g.L.Lines.faults g.L.Lines.rest c.args.lines.now c.hold.new.lines in
-    saved seen lines (terms c.args.setting.now.limits.now c.args.setting.now.symbols.now c.args.prompts) (engine c.args.machine) (engine c.hold.new.machine) frames m f c.requires.between
-    (seen_of g.K.Sink.faults g.K.Sink.contents c.hold.new.sink) c.save_here.result (c.in-Save.ensures.written (λ x. cc))
-    (g.F.PageFile.contents c.args.pages.now) (g.F.PageFile.contents c.hold.new.file) (change g.K.Sink.faults g.K.Sink.contents c.hold.new.sink c.save_here.new.sink) (change g.F.PageFile.faults g.F.PageFile.contents c.hold.new.file c.save_here.new.pages) refl refl
-    (rose_then (c.in-Save.ensures.unfailed (λ x. cc) (λ x. cc))) c.hold.ensures.only c.in-Save.ensures.holds c.save_here.ensures.saves c.save_here.ensures.answers
+pub loop-preserved : goal.loop-preserved
+loop-preserved g c =
+    let again = c.in-None.ensures.again refl in
+    record {
+      behind = behind_then (terms c.args.setting.now.limits.now c.args.setting.now.legend.now c.args.prompts) (Start c.args.beginning.now.programs.now.system c.args.beginning.now.programs.now.user c.args.beginning.now.input.now) c.args.beginning.now.frames (engine c.loop.machine) c.loop.invariant.fresh c.loop.invariant.between c.loop.breaks c.hold_run.new.breaks c.loop.counter (hears (seen_of g.K.Sink.faults g.K.Sink.contents c.args.sink.now) (seen_of g.F.PageFile.faults g.F.PageFile.contents c.args.pages.now) (seen_of g.L.Lines.faults g.L.Lines.rest c.args.lines.now)) (hears (seen_of g.K.Sink.faults g.K.Sink.contents c.loop.sink) (seen_of g.F.PageFile.faults g.F.PageFile.contents c.loop.pages) (seen_of g.L.Lines.faults g.L.Lines.rest c.loop.lines)) (hears (seen_of g.K.Sink.faults g.K.Sink.contents c.hold_run.new.sink) (seen_of g.F.PageFile.faults g.F.PageFile.contents c.hold_run.new.pages) (seen_of g.L.Lines.faults g.L.Lines.rest c.hold_run.new.lines)) again (g.F.PageFile.contents c.args.pages.now) (seen_of g.K.Sink.faults g.K.Sink.contents c.begin_anew.new.sink) c.loop.invariant.behind c.in-Ok.ensures.ready;
+      quiet = quiet_then (hears (seen_of g.K.Sink.faults g.K.Sink.contents c.args.sink.now) (seen_of g.F.PageFile.faults g.F.PageFile.contents c.args.pages.now) (seen_of g.L.Lines.faults g.L.Lines.rest c.args.lines.now)) (hears (seen_of g.K.Sink.faults g.K.Sink.contents c.loop.sink) (seen_of g.F.PageFile.faults g.F.PageFile.contents c.loop.pages) (seen_of g.L.Lines.faults g.L.Lines.rest c.loop.lines)) (hears (seen_of g.K.Sink.faults g.K.Sink.contents c.hold_run.new.sink) (seen_of g.F.PageFile.faults g.F.PageFile.contents c.hold_run.new.pages) (seen_of g.L.Lines.faults g.L.Lines.rest c.hold_run.new.lines)) (seen_of g.K.Sink.faults g.K.Sink.contents c.begin_anew.new.sink) c.loop.invariant.quiet again.quiet c.in-Ok.ensures.ready.quiet;
+      fresh = c.in-Ok.ensures.fresh;
+      between = c.in-Ok.ensures.between;
+    }
 
-pub returns-in-Read-clause-went : goal.returns-in-Read-clause-went
-returns-in-Read-clause-went g c = λ frames m f.
-    let seen = outside (change g.K.Sink.faults g.K.Sink.contents c.args.sink.now c.report_here-in-Read.new.sink) (change g.F.PageFile.faults g.F.PageFile.contents c.args.pages.now c.hold.new.file) in
-    let lines = change g.L.Lines.faults g.L.Lines.rest c.args.lines.now c.hold.new.lines in
-    read_out seen lines (terms c.args.setting.now.limits.now c.args.setting.now.symbols.now c.args.prompts) (engine c.args.machine) (engine c.hold.new.machine) frames m f c.requires.between
-    (seen_of g.K.Sink.faults g.K.Sink.contents c.hold.new.sink) c.report_here-in-Read.result (c.in-Read.ensures.written (λ x. cc))
-    (g.F.PageFile.contents c.args.pages.now) c.hold.ensures.only c.in-Read.ensures.holds c.report_here-in-Read.ensures
+pub returns-in-Some-clause-went : goal.returns-in-Some-clause-went
+returns-in-Some-clause-went g c =
+    went_all (hears (seen_of g.K.Sink.faults g.K.Sink.contents c.args.sink.now) (seen_of g.F.PageFile.faults g.F.PageFile.contents c.args.pages.now) (seen_of g.L.Lines.faults g.L.Lines.rest c.args.lines.now)) (hears (seen_of g.K.Sink.faults g.K.Sink.contents c.loop.sink) (seen_of g.F.PageFile.faults g.F.PageFile.contents c.loop.pages) (seen_of g.L.Lines.faults g.L.Lines.rest c.loop.lines)) c.loop.invariant.quiet (seen_of g.K.Sink.faults g.K.Sink.contents c.hold_run.new.sink) (seen_of g.F.PageFile.faults g.F.PageFile.contents c.hold_run.new.pages) (seen_of g.L.Lines.faults g.L.Lines.rest c.hold_run.new.lines) (c.hold_run.new.sink ≡ c.loop.sink) (c.hold_run.new.pages ≡ c.loop.pages) (c.hold_run.new.lines ≡ c.loop.lines) (c.hold_run.new.sink ≡ c.args.sink.now) (c.hold_run.new.pages ≡ c.args.pages.now) (c.hold_run.new.lines ≡ c.args.lines.now)
+    (g.F.PageFile.contents c.args.pages.now) (terms c.args.setting.now.limits.now c.args.setting.now.legend.now c.args.prompts) (Start c.args.beginning.now.programs.now.system c.args.beginning.now.programs.now.user c.args.beginning.now.input.now) c.loop.breaks c.loop.counter c.in-Some.status c.loop.invariant.behind (c.in-Some.ensures.went c.args.beginning.now.frames (Start c.args.beginning.now.programs.now.system c.args.beginning.now.programs.now.user c.args.beginning.now.input.now) c.loop.invariant.fresh)
 
-pub returns-in-Lines-clause-went : goal.returns-in-Lines-clause-went
-returns-in-Lines-clause-went g c = λ frames m f.
-    let seen = outside (change g.K.Sink.faults g.K.Sink.contents c.args.sink.now c.report_here-in-Lines.new.sink) (change g.F.PageFile.faults g.F.PageFile.contents c.args.pages.now c.hold.new.file) in
-    let lines = change g.L.Lines.faults g.L.Lines.rest c.args.lines.now c.hold.new.lines in
-    counted_out seen lines (terms c.args.setting.now.limits.now c.args.setting.now.symbols.now c.args.prompts) (engine c.args.machine) (engine c.hold.new.machine) frames m f c.requires.between
-    (seen_of g.K.Sink.faults g.K.Sink.contents c.hold.new.sink) c.report_here-in-Lines.result (c.in-Lines.ensures.written (λ x. cc))
-    (g.F.PageFile.contents c.args.pages.now) c.hold.ensures.only c.in-Lines.ensures.holds c.report_here-in-Lines.ensures
+pub returns-in-Err-clause-went : goal.returns-in-Err-clause-went
+returns-in-Err-clause-went g c =
+    refused (terms c.args.setting.now.limits.now c.args.setting.now.legend.now c.args.prompts) (Start c.args.beginning.now.programs.now.system c.args.beginning.now.programs.now.user c.args.beginning.now.input.now) c.args.beginning.now.frames (engine c.loop.machine) c.loop.invariant.fresh c.loop.invariant.between c.loop.breaks c.hold_run.new.breaks c.loop.counter (hears (seen_of g.K.Sink.faults g.K.Sink.contents c.args.sink.now) (seen_of g.F.PageFile.faults g.F.PageFile.contents c.args.pages.now) (seen_of g.L.Lines.faults g.L.Lines.rest c.args.lines.now)) (seen_of g.K.Sink.faults g.K.Sink.contents c.loop.sink) (g.F.PageFile.faults c.loop.pages) (g.F.PageFile.contents c.loop.pages) (seen_of g.L.Lines.faults g.L.Lines.rest c.loop.lines) (hears (seen_of g.K.Sink.faults g.K.Sink.contents c.hold_run.new.sink) (seen_of g.F.PageFile.faults g.F.PageFile.contents c.hold_run.new.pages) (seen_of g.L.Lines.faults g.L.Lines.rest c.hold_run.new.lines)) (c.in-None.ensures.again refl) c.loop.invariant.quiet (seen_of g.K.Sink.faults g.K.Sink.contents c.begin_anew.new.sink) c.in-Err.status
+    (c.begin_anew.new.sink ≡ c.args.sink.now) (c.hold_run.new.pages ≡ c.args.pages.now) (c.hold_run.new.lines ≡ c.args.lines.now) (g.F.PageFile.contents c.args.pages.now) c.loop.invariant.behind c.in-Err.ensures.refused
 
-pub returns-in-Turns-clause-went : goal.returns-in-Turns-clause-went
-returns-in-Turns-clause-went g c = λ frames m f.
-    let seen = outside (change g.K.Sink.faults g.K.Sink.contents c.args.sink.now c.report.new.sink) (change g.F.PageFile.faults g.F.PageFile.contents c.args.pages.now c.hold.new.file) in
-    let lines = change g.L.Lines.faults g.L.Lines.rest c.args.lines.now c.hold.new.lines in
-    timed_out seen lines (terms c.args.setting.now.limits.now c.args.setting.now.symbols.now c.args.prompts) (engine c.args.machine) (engine c.hold.new.machine) frames m f c.requires.between
-    (seen_of g.K.Sink.faults g.K.Sink.contents c.hold.new.sink) c.report.result (c.in-Turns.ensures.written (λ x. cc))
-    (g.F.PageFile.contents c.args.pages.now) c.hold.ensures.only c.in-Turns.ensures.holds c.report.ensures
+pub returns-clause-went : goal.returns-clause-went
+returns-clause-went g c =
+    let all : c.loop.counter ≡ 2 ^ 64 - 1 = omega arith in
+    worn_out (terms c.args.setting.now.limits.now c.args.setting.now.legend.now c.args.prompts) (Start c.args.beginning.now.programs.now.system c.args.beginning.now.programs.now.user c.args.beginning.now.input.now) c.args.beginning.now.frames (engine c.loop.machine) c.loop.invariant.fresh c.loop.invariant.between c.loop.breaks c.loop.counter (hears (seen_of g.K.Sink.faults g.K.Sink.contents c.args.sink.now) (seen_of g.F.PageFile.faults g.F.PageFile.contents c.args.pages.now) (seen_of g.L.Lines.faults g.L.Lines.rest c.args.lines.now)) (hears (seen_of g.K.Sink.faults g.K.Sink.contents c.loop.sink) (seen_of g.F.PageFile.faults g.F.PageFile.contents c.loop.pages) (seen_of g.L.Lines.faults g.L.Lines.rest c.loop.lines)) c.loop.invariant.quiet (seen_of g.K.Sink.faults g.K.Sink.contents c.report_here.new.sink) c.report_here.result
+    (c.report_here.new.sink ≡ c.args.sink.now) (c.loop.pages ≡ c.args.pages.now) (c.loop.lines ≡ c.args.lines.now) all c.report_here.ensures (g.F.PageFile.contents c.args.pages.now) c.loop.invariant.behind
 
-pub returns-in-PageFault-clause-went : goal.returns-in-PageFault-clause-went
-returns-in-PageFault-clause-went g c = λ frames m f.
-    let seen = outside (change g.K.Sink.faults g.K.Sink.contents c.args.sink.now c.report-in-PageFault.new.sink) (change g.F.PageFile.faults g.F.PageFile.contents c.args.pages.now c.hold.new.file) in
-    let lines = change g.L.Lines.faults g.L.Lines.rest c.args.lines.now c.hold.new.lines in
-    cut_off seen lines (terms c.args.setting.now.limits.now c.args.setting.now.symbols.now c.args.prompts) (engine c.args.machine) (engine c.hold.new.machine) frames m f c.requires.between
-    (seen_of g.K.Sink.faults g.K.Sink.contents c.hold.new.sink) c.report-in-PageFault.result (c.in-PageFault.ensures.written (λ x. cc))
-    (g.F.PageFile.contents c.args.pages.now) c.hold.ensures.only (c.in-PageFault.ensures.fault refl) c.in-PageFault.ensures.holds c.report-in-PageFault.ensures
+pub returns-in-Some-clause-failed : goal.returns-in-Some-clause-failed
+returns-in-Some-clause-failed g c = admits_then _ _ _ _ _ c.loop.invariant.quiet.pages c.in-Some.ensures.failed
 
-pub returns-in-LineFault-clause-went : goal.returns-in-LineFault-clause-went
-returns-in-LineFault-clause-went g c = λ frames m f.
-    let seen = outside (change g.K.Sink.faults g.K.Sink.contents c.args.sink.now c.report_here-in-LineFault.new.sink) (change g.F.PageFile.faults g.F.PageFile.contents c.args.pages.now c.hold.new.file) in
-    let lines = change g.L.Lines.faults g.L.Lines.rest c.args.lines.now c.hold.new.lines in
-    unread seen lines (terms c.args.setting.now.limits.now c.args.setting.now.symbols.now c.args.prompts) (engine c.args.machine) (engine c.hold.new.machine) frames m f c.requires.between
-    (seen_of g.K.Sink.faults g.K.Sink.contents c.hold.new.sink) c.report_here-in-LineFault.result (c.in-LineFault.ensures.written (λ x. cc))
-    (g.F.PageFile.contents c.args.pages.now) c.hold.ensures.only (c.in-LineFault.ensures.broken refl) c.in-LineFault.ensures.holds c.report_here-in-LineFault.ensures
+pub returns-in-Err-clause-failed : goal.returns-in-Err-clause-failed
+returns-in-Err-clause-failed g c = none_admits _ _ _ _ ((c.in-None.ensures.again refl).quiet.pages ∙ c.loop.invariant.quiet.pages)
 
-pub returns-in-WriteFault-clause-went : goal.returns-in-WriteFault-clause-went
-returns-in-WriteFault-clause-went g c = λ frames m f.
-    let seen = outside (change g.K.Sink.faults g.K.Sink.contents c.args.sink.now c.hold.new.sink) (change g.F.PageFile.faults g.F.PageFile.contents c.args.pages.now c.hold.new.file) in
-    let lines = change g.L.Lines.faults g.L.Lines.rest c.args.lines.now c.hold.new.lines in
-    lost seen lines (terms c.args.setting.now.limits.now c.args.setting.now.symbols.now c.args.prompts) (engine c.args.machine) (engine c.hold.new.machine) frames m f c.requires.between
-    (g.F.PageFile.contents c.args.pages.now) c.hold.ensures.only (c.in-WriteFault.ensures.cause refl) c.in-WriteFault.ensures.holds
+pub returns-clause-failed : goal.returns-clause-failed
+returns-clause-failed g c = none_admits _ _ _ _ c.loop.invariant.quiet.pages
 
-pub returns-in-Quit-clause-failed : goal.returns-in-Quit-clause-failed
-returns-in-Quit-clause-failed g c = none_admits _ _ _ _ (c.in-Quit.ensures.unfailed (λ x. cc) (λ x. cc))
+pub returns-in-Some-clause-broken : goal.returns-in-Some-clause-broken
+returns-in-Some-clause-broken g c = admits_then _ _ _ _ _ c.loop.invariant.quiet.lines c.in-Some.ensures.broken
 
-pub returns-in-Save-clause-failed : goal.returns-in-Save-clause-failed
-returns-in-Save-clause-failed g c = admits_then _ _ _ _ _ (c.in-Save.ensures.unfailed (λ x. cc) (λ x. cc)) c.save_here.ensures.failed
+pub returns-in-Err-clause-broken : goal.returns-in-Err-clause-broken
+returns-in-Err-clause-broken g c = none_admits _ _ _ _ ((c.in-None.ensures.again refl).quiet.lines ∙ c.loop.invariant.quiet.lines)
 
-pub returns-in-Read-clause-failed : goal.returns-in-Read-clause-failed
-returns-in-Read-clause-failed g c = none_admits _ _ _ _ (c.in-Read.ensures.unfailed (λ x. cc) (λ x. cc))
-
-pub returns-in-Lines-clause-failed : goal.returns-in-Lines-clause-failed
-returns-in-Lines-clause-failed g c = none_admits _ _ _ _ (c.in-Lines.ensures.unfailed (λ x. cc) (λ x. cc))
-
-pub returns-in-Turns-clause-failed : goal.returns-in-Turns-clause-failed
-returns-in-Turns-clause-failed g c = none_admits _ _ _ _ (c.in-Turns.ensures.unfailed (λ x. cc) (λ x. cc))
-
-pub returns-in-LineFault-clause-failed : goal.returns-in-LineFault-clause-failed
-returns-in-LineFault-clause-failed g c = none_admits _ _ _ _ (c.in-LineFault.ensures.unfailed (λ x. cc) (λ x. cc))
-
-pub returns-in-PageFault-clause-failed : goal.returns-in-PageFault-clause-failed
-returns-in-PageFault-clause-failed g c = fault_admits _ _ _ _ _ _ _ (c.in-PageFault.ensures.fault refl) c.report-in-PageFault.ensures
-
-pub returns-in-WriteFault-clause-failed : goal.returns-in-WriteFault-clause-failed
-returns-in-WriteFault-clause-failed g c = λ n. record { once = c.hold.ensures.failed n; answer = inr refl }
-
-pub returns-in-Quit-clause-broken : goal.returns-in-Quit-clause-broken
-returns-in-Quit-clause-broken g c = none_admits _ _ _ _ (c.in-Quit.ensures.whole (λ x. cc))
-
-pub returns-in-Save-clause-broken : goal.returns-in-Save-clause-broken
-returns-in-Save-clause-broken g c = none_admits _ _ _ _ (c.in-Save.ensures.whole (λ x. cc))
-
-pub returns-in-Read-clause-broken : goal.returns-in-Read-clause-broken
-returns-in-Read-clause-broken g c = none_admits _ _ _ _ (c.in-Read.ensures.whole (λ x. cc))
-
-pub returns-in-Lines-clause-broken : goal.returns-in-Lines-clause-broken
-returns-in-Lines-clause-broken g c = none_admits _ _ _ _ (c.in-Lines.ensures.whole (λ x. cc))
-
-pub returns-in-Turns-clause-broken : goal.returns-in-Turns-clause-broken
-returns-in-Turns-clause-broken g c = none_admits _ _ _ _ (c.in-Turns.ensures.whole (λ x. cc))
-
-pub returns-in-PageFault-clause-broken : goal.returns-in-PageFault-clause-broken
-returns-in-PageFault-clause-broken g c = none_admits _ _ _ _ (c.in-PageFault.ensures.whole (λ x. cc))
-
-pub returns-in-WriteFault-clause-broken : goal.returns-in-WriteFault-clause-broken
-returns-in-WriteFault-clause-broken g c = none_admits _ _ _ _ (c.in-WriteFault.ensures.whole (λ x. cc))
-
-pub returns-in-LineFault-clause-broken : goal.returns-in-LineFault-clause-broken
-returns-in-LineFault-clause-broken g c = fault_admits _ _ _ _ _ _ _ (c.in-LineFault.ensures.broken refl) c.report_here-in-LineFault.ensures
+pub returns-clause-broken : goal.returns-clause-broken
+returns-clause-broken g c = none_admits _ _ _ _ c.loop.invariant.quiet.lines

@@ -14,7 +14,7 @@ pub returns-then-is_at_limit-clause-acts : goal.returns-then-is_at_limit-clause-
 returns-then-is_at_limit-clause-acts g c = λ o s replies here.
     let v = scene (engine c.args.machine.now) (g.F.PageFile.contents c.args.file.now) (g.K.Sink.contents c.args.sink.now) in
     let w = scene (engine c.tell_plain_stop.new.machine) (g.F.PageFile.contents c.tell_plain_stop.new.file) (g.K.Sink.contents c.tell_plain_stop.new.sink) in
-    stands c.tell_plain_stop.result c.args.setting.now.limits.now.turns c.args.setting.now.limits.now.steps c.args.setting.now.symbols.now c.args.plan.now (pages_at v.machine) o s replies v w c.is_at_limit.result here c.is_at_limit.ensures.limit c.if-is_at_limit.true
+    stands c.tell_plain_stop.result c.args.setting.now.limits.now.turns c.args.setting.now.limits.now.steps c.args.setting.now.legend.now c.args.plan.now (pages_at v.machine) o s replies v w c.is_at_limit.result here c.is_at_limit.ensures.limit c.if-is_at_limit.true
     (c.tell_plain_stop.ensures.replies o s replies here)
 
 pub returns-in-Ok-Some-clause-acts : goal.returns-in-Ok-Some-clause-acts
@@ -25,8 +25,8 @@ returns-in-Ok-Some-clause-acts g c = λ o s replies here.
     let limit = c.args.setting.now.limits.now.steps in
     let a = c.in-Ok-Some.ensures.attempts o s replies here (room o s replies v here (c.is_at_limit.ensures.room c.if-is_at_limit.false)) in
     let is : Some c.in-Ok-Some.page ≡ missed_by (pages_at v.machine) s = sym c.in-Ok-Some.field-0-is ∙ a.0 in
-    turned_missed c.tell_missed.result c.in-Ok-Some.page c.args.setting.now.limits.now.turns limit c.args.setting.now.symbols.now c.args.plan.now (pages_at v.machine) o s replies v w c.is_at_limit.result here c.is_at_limit.ensures.limit c.if-is_at_limit.false is
-    (tells c.tell_missed.result (g.K.Sink.faults c.attempt.new.sink) (g.K.Sink.faults c.tell_missed.new.sink) o s replies (missed_line c.args.setting.now.symbols.now (start_of_page c.in-Ok-Some.page)) x.machine x.file x.sink w.sink
+    turned_missed c.tell_missed.result c.in-Ok-Some.page c.args.setting.now.limits.now.turns limit c.args.setting.now.legend.now c.args.plan.now (pages_at v.machine) o s replies v w c.is_at_limit.result here c.is_at_limit.ensures.limit c.if-is_at_limit.false is
+    (tells c.tell_missed.result (g.K.Sink.faults c.attempt.new.sink) (g.K.Sink.faults c.tell_missed.new.sink) o s replies (missed_line c.args.setting.now.legend.now (start_of_page c.in-Ok-Some.page)) x.machine x.file x.sink w.sink
     (missed_here c.in-Ok-Some.page (missed_by (pages_at v.machine) s) o s replies x is a.1) c.tell_missed.ensures)
 
 pub returns-in-Ok-None-clause-acts : goal.returns-in-Ok-None-clause-acts
@@ -37,7 +37,7 @@ returns-in-Ok-None-clause-acts g c = λ o s replies here.
     let limit = c.args.setting.now.limits.now.steps in
     let a = c.in-Ok-None.ensures.attempts o s replies here (room o s replies v here (c.is_at_limit.ensures.room c.if-is_at_limit.false)) in
     let is : None ≡ missed_by (pages_at v.machine) s = sym c.in-Ok-None.field-0-is ∙ a.0 in
-    turned_made c.tell_plain_stop-in-Ok-None.result c.args.setting.now.limits.now.turns limit c.args.setting.now.symbols.now c.args.plan.now (pages_at v.machine) o s replies v w c.is_at_limit.result here c.is_at_limit.ensures.limit c.if-is_at_limit.false is
+    turned_made c.tell_plain_stop-in-Ok-None.result c.args.setting.now.limits.now.turns limit c.args.setting.now.legend.now c.args.plan.now (pages_at v.machine) o s replies v w c.is_at_limit.result here c.is_at_limit.ensures.limit c.if-is_at_limit.false is
     (c.tell_plain_stop-in-Ok-None.ensures.replies o (stepped s) replies (made_here (missed_by (pages_at v.machine) s) o s replies x is a.1))
 
 pub returns-in-Err-clause-acts : goal.returns-in-Err-clause-acts
@@ -45,11 +45,11 @@ returns-in-Err-clause-acts g c = λ o s replies here.
     let v = scene (engine c.args.machine.now) (g.F.PageFile.contents c.args.file.now) (g.K.Sink.contents c.args.sink.now) in
     let w = scene (engine c.attempt.new.machine) (g.F.PageFile.contents c.attempt.new.file) (g.K.Sink.contents c.attempt.new.sink) in
     let limit = c.args.setting.now.limits.now.steps in
-    turned_failed c.in-Err.failure c.args.setting.now.limits.now.turns limit c.args.setting.now.symbols.now c.args.plan.now (pages_at v.machine) o s replies v w c.is_at_limit.result here c.is_at_limit.ensures.limit c.if-is_at_limit.false
+    turned_failed c.in-Err.failure c.args.setting.now.limits.now.turns limit c.args.setting.now.legend.now c.args.plan.now (pages_at v.machine) o s replies v w c.is_at_limit.result here c.is_at_limit.ensures.limit c.if-is_at_limit.false
     (c.in-Err.ensures.attempts o s replies here (room o s replies v here (c.is_at_limit.ensures.room c.if-is_at_limit.false)))
 
 pub returns-in-Ok-Some-clause-counts : goal.returns-in-Ok-Some-clause-counts
-returns-in-Ok-Some-clause-counts g c = counts_then c.tell_missed.result (g.F.PageFile.faults c.args.file.now) (g.F.PageFile.faults c.attempt.new.file) (g.F.PageFile.faults c.attempt.new.file) (g.K.Sink.faults c.args.sink.now) (g.K.Sink.faults c.attempt.new.sink) (g.K.Sink.faults c.tell_missed.new.sink) c.in-Ok-Some.ensures.counts.0 c.in-Ok-Some.ensures.counts.1 (reply_counts c.tell_missed.result (g.F.PageFile.faults c.attempt.new.file) (g.K.Sink.faults c.attempt.new.sink) (g.K.Sink.faults c.tell_missed.new.sink) (g.K.Sink.contents c.attempt.new.sink) (g.K.Sink.contents c.tell_missed.new.sink) (missed_line c.args.setting.now.symbols.now (start_of_page c.in-Ok-Some.page)) c.tell_missed.ensures)
+returns-in-Ok-Some-clause-counts g c = counts_then c.tell_missed.result (g.F.PageFile.faults c.args.file.now) (g.F.PageFile.faults c.attempt.new.file) (g.F.PageFile.faults c.attempt.new.file) (g.K.Sink.faults c.args.sink.now) (g.K.Sink.faults c.attempt.new.sink) (g.K.Sink.faults c.tell_missed.new.sink) c.in-Ok-Some.ensures.counts.0 c.in-Ok-Some.ensures.counts.1 (reply_counts c.tell_missed.result (g.F.PageFile.faults c.attempt.new.file) (g.K.Sink.faults c.attempt.new.sink) (g.K.Sink.faults c.tell_missed.new.sink) (g.K.Sink.contents c.attempt.new.sink) (g.K.Sink.contents c.tell_missed.new.sink) (missed_line c.args.setting.now.legend.now (start_of_page c.in-Ok-Some.page)) c.tell_missed.ensures)
 
 pub returns-in-Ok-None-clause-counts : goal.returns-in-Ok-None-clause-counts
 returns-in-Ok-None-clause-counts g c = counts_then c.tell_plain_stop-in-Ok-None.result (g.F.PageFile.faults c.args.file.now) (g.F.PageFile.faults c.attempt.new.file) (g.F.PageFile.faults c.tell_plain_stop-in-Ok-None.new.file) (g.K.Sink.faults c.args.sink.now) (g.K.Sink.faults c.attempt.new.sink) (g.K.Sink.faults c.tell_plain_stop-in-Ok-None.new.sink) c.in-Ok-None.ensures.counts.0 c.in-Ok-None.ensures.counts.1 c.tell_plain_stop-in-Ok-None.ensures.counts

@@ -7,13 +7,13 @@ use Rattle.vax_debug_acts.specs.Acts.{put_act, put_value_act}
 use Rattle.vax_debug_acts.proofs.deposits.put_value.Goals as goal
 
 pub returns-in-Number-clause-acts : goal.returns-in-Number-clause-acts
-returns-in-Number-clause-acts g c = subst (λ (z : Value). ActsFrom (scene (engine c.args.machine.now) (g.F.PageFile.contents c.args.file.now) (g.K.Sink.contents c.args.sink.now)) (scene (engine c.put_result.new.machine) (g.F.PageFile.contents c.put_result.new.file) (g.K.Sink.contents c.put_result.new.sink)) c.put_result.result c.args.setting.now.limits.now (put_value_act c.args.setting.now.symbols.now c.args.address z)) (sym c.in-Number.is)
+returns-in-Number-clause-acts g c = subst (λ (z : Value). ActsFrom (scene (engine c.args.machine.now) (g.F.PageFile.contents c.args.file.now) (g.K.Sink.contents c.args.sink.now)) (scene (engine c.put_result.new.machine) (g.F.PageFile.contents c.put_result.new.file) (g.K.Sink.contents c.put_result.new.sink)) c.put_result.result c.args.setting.now.limits.now (put_value_act c.args.setting.now.legend.now c.args.address z)) (sym c.in-Number.is)
     (c.put_result.ensures.acts)
 
 pub returns-in-Quadword-clause-acts : goal.returns-in-Quadword-clause-acts
-returns-in-Quadword-clause-acts g c = subst (λ (z : Value). ActsFrom (scene (engine c.args.machine.now) (g.F.PageFile.contents c.args.file.now) (g.K.Sink.contents c.args.sink.now)) (scene (engine c.put.new.machine) (g.F.PageFile.contents c.put.new.file) (g.K.Sink.contents c.put.new.sink)) c.put.result c.args.setting.now.limits.now (put_value_act c.args.setting.now.symbols.now c.args.address z)) (sym c.in-Quadword.is)
+returns-in-Quadword-clause-acts g c = subst (λ (z : Value). ActsFrom (scene (engine c.args.machine.now) (g.F.PageFile.contents c.args.file.now) (g.K.Sink.contents c.args.sink.now)) (scene (engine c.put.new.machine) (g.F.PageFile.contents c.put.new.file) (g.K.Sink.contents c.put.new.sink)) c.put.result c.args.setting.now.limits.now (put_value_act c.args.setting.now.legend.now c.args.address z)) (sym c.in-Quadword.is)
     (subst (λ (z : List ℕ). ActsFrom (scene (engine c.args.machine.now) (g.F.PageFile.contents c.args.file.now) (g.K.Sink.contents c.args.sink.now)) (scene (engine c.put.new.machine) (g.F.PageFile.contents c.put.new.file) (g.K.Sink.contents c.put.new.sink)) c.put.result c.args.setting.now.limits.now (put_act c.args.address z)) c.to_le_bytes.ensures (c.put.ensures.acts c.args.setting.now.limits.now))
 
 pub returns-in-Text-clause-acts : goal.returns-in-Text-clause-acts
-returns-in-Text-clause-acts g c = subst (λ (z : Value). ActsFrom (scene (engine c.args.machine.now) (g.F.PageFile.contents c.args.file.now) (g.K.Sink.contents c.args.sink.now)) (scene (engine c.put-in-Text.new.machine) (g.F.PageFile.contents c.put-in-Text.new.file) (g.K.Sink.contents c.put-in-Text.new.sink)) c.put-in-Text.result c.args.setting.now.limits.now (put_value_act c.args.setting.now.symbols.now c.args.address z)) (sym c.in-Text.is)
+returns-in-Text-clause-acts g c = subst (λ (z : Value). ActsFrom (scene (engine c.args.machine.now) (g.F.PageFile.contents c.args.file.now) (g.K.Sink.contents c.args.sink.now)) (scene (engine c.put-in-Text.new.machine) (g.F.PageFile.contents c.put-in-Text.new.file) (g.K.Sink.contents c.put-in-Text.new.sink)) c.put-in-Text.result c.args.setting.now.limits.now (put_value_act c.args.setting.now.legend.now c.args.address z)) (sym c.in-Text.is)
     (subst (λ (z : List ℕ). ActsFrom (scene (engine c.args.machine.now) (g.F.PageFile.contents c.args.file.now) (g.K.Sink.contents c.args.sink.now)) (scene (engine c.put-in-Text.new.machine) (g.F.PageFile.contents c.put-in-Text.new.file) (g.K.Sink.contents c.put-in-Text.new.sink)) c.put-in-Text.result c.args.setting.now.limits.now (put_act c.args.address z)) c.as_slice.ensures (c.put-in-Text.ensures.acts c.args.setting.now.limits.now))

@@ -12,14 +12,14 @@ returns-in-Ok-clause-acts g c = λ o s replies here.
     let limit = c.args.setting.now.limits.now.steps in
     let w = scene (engine c.tell_stop.new.machine) (g.F.PageFile.contents c.tell_stop.new.file) (g.K.Sink.contents c.tell_stop.new.sink) in
     let t = gone_to limit c.args.goal c.args.plan.now.breaks c.args.seen.now s in
-    done c.tell_stop.result c.args.setting.now.limits.now.turns (left limit s) o s t replies (stop_reply limit c.args.setting.now.symbols.now c.args.plan.now c.args.seen.now t) w (c.tell_stop.ensures.replies o t replies (c.in-Ok.ensures.goes o s replies here))
+    done c.tell_stop.result c.args.setting.now.limits.now.turns (left limit s) o s t replies (stop_reply limit c.args.setting.now.legend.now c.args.plan.now c.args.seen.now t) w (c.tell_stop.ensures.replies o t replies (c.in-Ok.ensures.goes o s replies here))
 
 pub returns-in-Err-clause-acts : goal.returns-in-Err-clause-acts
 returns-in-Err-clause-acts g c = λ o s replies here.
     let limit = c.args.setting.now.limits.now.steps in
     let w = scene (engine c.go_to.new.machine) (g.F.PageFile.contents c.go_to.new.file) (g.K.Sink.contents c.go_to.new.sink) in
     let t = gone_to limit c.args.goal c.args.plan.now.breaks c.args.seen.now s in
-    cut_off c.in-Err.failure c.args.setting.now.limits.now.turns (goal_seen limit c.args.setting.now.symbols.now c.args.plan.now c.args.goal c.args.seen.now s) o s t replies w (c.in-Err.ensures.goes o s replies here)
+    cut_off c.in-Err.failure c.args.setting.now.limits.now.turns (goal_seen limit c.args.setting.now.legend.now c.args.plan.now c.args.goal c.args.seen.now s) o s t replies w (c.in-Err.ensures.goes o s replies here)
 
 pub returns-in-Ok-clause-counts : goal.returns-in-Ok-clause-counts
 returns-in-Ok-clause-counts g c = counts_then c.tell_stop.result (g.F.PageFile.faults c.args.file.now) (g.F.PageFile.faults c.go_to.new.file) (g.F.PageFile.faults c.tell_stop.new.file) (g.K.Sink.faults c.args.sink.now) (g.K.Sink.faults c.go_to.new.sink) (g.K.Sink.faults c.tell_stop.new.sink) c.in-Ok.ensures.counts.0 c.in-Ok.ensures.counts.1 c.tell_stop.ensures.counts

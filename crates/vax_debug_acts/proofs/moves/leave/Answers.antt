@@ -17,7 +17,7 @@ returns-in-Ok-Some-clause-acts g c = λ o s replies here.
     let here2 = c.frame_goal.ensures.stays sink o s replies here in
     let w = scene (engine c.go_to.new.machine) (g.F.PageFile.contents c.go_to.new.file) (g.K.Sink.contents c.go_to.new.sink) in
     let is : Some c.in-Ok-Some.goal ≡ frame_goal s.machine = (rw c.in-Ok-Some.field-0-is at c.in-Ok-Some.ensures.tells) sink o s replies here in
-    with_frame c.go_to.result turns limit c.args.setting.now.symbols.now c.args.plan.now c.in-Ok-Some.goal (frame_goal s.machine) o s replies w is (c.go_to.ensures.acts o s replies here2)
+    with_frame c.go_to.result turns limit c.args.setting.now.legend.now c.args.plan.now c.in-Ok-Some.goal (frame_goal s.machine) o s replies w is (c.go_to.ensures.acts o s replies here2)
 
 pub returns-in-Ok-None-clause-acts : goal.returns-in-Ok-None-clause-acts
 returns-in-Ok-None-clause-acts g c = λ o s replies here.
@@ -27,7 +27,7 @@ returns-in-Ok-None-clause-acts g c = λ o s replies here.
     let here2 = c.frame_goal.ensures.stays sink o s replies here in
     let w = scene (engine c.frame_goal.new.machine) (g.F.PageFile.contents c.frame_goal.new.file) (g.K.Sink.contents c.tell_no_frame.new.sink) in
     let is : None ≡ frame_goal s.machine = (rw c.in-Ok-None.field-0-is at c.in-Ok-None.ensures.tells) sink o s replies here in
-    without_frame c.tell_no_frame.result turns limit c.args.setting.now.symbols.now c.args.plan.now (frame_goal s.machine) o s replies w is
+    without_frame c.tell_no_frame.result turns limit c.args.setting.now.legend.now c.args.plan.now (frame_goal s.machine) o s replies w is
     (tells c.tell_no_frame.result (g.K.Sink.faults c.args.sink.now) (g.K.Sink.faults c.tell_no_frame.new.sink) o s replies no_frame_line (engine c.frame_goal.new.machine) (g.F.PageFile.contents c.frame_goal.new.file) sink (g.K.Sink.contents c.tell_no_frame.new.sink) here2 c.tell_no_frame.ensures)
 
 pub returns-in-Err-clause-acts : goal.returns-in-Err-clause-acts
@@ -36,7 +36,7 @@ returns-in-Err-clause-acts g c = λ o s replies here.
     let turns = c.args.setting.now.limits.now.turns in
     let sink = g.K.Sink.contents c.args.sink.now in
     let here2 = c.frame_goal.ensures.stays sink o s replies here in
-    not_done turns (out_act limit c.args.setting.now.symbols.now c.args.plan.now s) o s replies (scene (engine c.frame_goal.new.machine) (g.F.PageFile.contents c.frame_goal.new.file) (g.K.Sink.contents c.args.sink.now)) here2
+    not_done turns (out_act limit c.args.setting.now.legend.now c.args.plan.now s) o s replies (scene (engine c.frame_goal.new.machine) (g.F.PageFile.contents c.frame_goal.new.file) (g.K.Sink.contents c.args.sink.now)) here2
 
 pub returns-in-Ok-Some-clause-counts : goal.returns-in-Ok-Some-clause-counts
 returns-in-Ok-Some-clause-counts g c = counts_then c.go_to.result (g.F.PageFile.faults c.args.file.now) (g.F.PageFile.faults c.frame_goal.new.file) (g.F.PageFile.faults c.go_to.new.file) (g.K.Sink.faults c.args.sink.now) (g.K.Sink.faults c.args.sink.now) (g.K.Sink.faults c.go_to.new.sink) c.in-Ok-Some.ensures.counts.quiet refl c.go_to.ensures.counts

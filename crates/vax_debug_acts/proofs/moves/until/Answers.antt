@@ -16,8 +16,8 @@ returns-in-Ok-Some-clause-acts g c = λ o s replies here.
     let sink = g.K.Sink.contents c.args.sink.now in
     let here2 = c.evaluate.ensures.stays sink o s replies here in
     let w = scene (engine c.go_to.new.machine) (g.F.PageFile.contents c.go_to.new.file) (g.K.Sink.contents c.go_to.new.sink) in
-    let is : Some c.in-Ok-Some.address ≡ evaluated c.args.setting.now.symbols.now c.args.to.now s.machine = (rw c.in-Ok-Some.field-0-is at c.in-Ok-Some.ensures.tells) sink o s replies here in
-    with_value c.go_to.result turns c.in-Ok-Some.address (evaluated c.args.setting.now.symbols.now c.args.to.now s.machine) (λ (a : ℕ). to_goal limit c.args.setting.now.symbols.now c.args.plan.now (goal_at a 0) s) o s replies w is (c.go_to.ensures.acts o s replies here2)
+    let is : Some c.in-Ok-Some.address ≡ evaluated c.args.setting.now.legend.now c.args.to.now s.machine = (rw c.in-Ok-Some.field-0-is at c.in-Ok-Some.ensures.tells) sink o s replies here in
+    with_value c.go_to.result turns c.in-Ok-Some.address (evaluated c.args.setting.now.legend.now c.args.to.now s.machine) (λ (a : ℕ). to_goal limit c.args.setting.now.legend.now c.args.plan.now (goal_at a 0) s) o s replies w is (c.go_to.ensures.acts o s replies here2)
 
 pub returns-in-Ok-None-clause-acts : goal.returns-in-Ok-None-clause-acts
 returns-in-Ok-None-clause-acts g c = λ o s replies here.
@@ -26,8 +26,8 @@ returns-in-Ok-None-clause-acts g c = λ o s replies here.
     let sink = g.K.Sink.contents c.args.sink.now in
     let here2 = c.evaluate.ensures.stays sink o s replies here in
     let w = scene (engine c.evaluate.new.machine) (g.F.PageFile.contents c.evaluate.new.file) (g.K.Sink.contents c.tell_no_value.new.sink) in
-    let is : None ≡ evaluated c.args.setting.now.symbols.now c.args.to.now s.machine = (rw c.in-Ok-None.field-0-is at c.in-Ok-None.ensures.tells) sink o s replies here in
-    without_value c.tell_no_value.result turns (evaluated c.args.setting.now.symbols.now c.args.to.now s.machine) (λ (a : ℕ). to_goal limit c.args.setting.now.symbols.now c.args.plan.now (goal_at a 0) s) o s replies w is
+    let is : None ≡ evaluated c.args.setting.now.legend.now c.args.to.now s.machine = (rw c.in-Ok-None.field-0-is at c.in-Ok-None.ensures.tells) sink o s replies here in
+    without_value c.tell_no_value.result turns (evaluated c.args.setting.now.legend.now c.args.to.now s.machine) (λ (a : ℕ). to_goal limit c.args.setting.now.legend.now c.args.plan.now (goal_at a 0) s) o s replies w is
     (tells c.tell_no_value.result (g.K.Sink.faults c.args.sink.now) (g.K.Sink.faults c.tell_no_value.new.sink) o s replies no_value_line (engine c.evaluate.new.machine) (g.F.PageFile.contents c.evaluate.new.file) sink (g.K.Sink.contents c.tell_no_value.new.sink) here2 c.tell_no_value.ensures)
 
 pub returns-in-Err-clause-acts : goal.returns-in-Err-clause-acts
@@ -36,7 +36,7 @@ returns-in-Err-clause-acts g c = λ o s replies here.
     let turns = c.args.setting.now.limits.now.turns in
     let sink = g.K.Sink.contents c.args.sink.now in
     let here2 = c.evaluate.ensures.stays sink o s replies here in
-    not_done turns (until_act limit c.args.setting.now.symbols.now c.args.plan.now c.args.to.now s) o s replies (scene (engine c.evaluate.new.machine) (g.F.PageFile.contents c.evaluate.new.file) (g.K.Sink.contents c.args.sink.now)) here2
+    not_done turns (until_act limit c.args.setting.now.legend.now c.args.plan.now c.args.to.now s) o s replies (scene (engine c.evaluate.new.machine) (g.F.PageFile.contents c.evaluate.new.file) (g.K.Sink.contents c.args.sink.now)) here2
 
 pub returns-in-Ok-Some-clause-counts : goal.returns-in-Ok-Some-clause-counts
 returns-in-Ok-Some-clause-counts g c = counts_then c.go_to.result (g.F.PageFile.faults c.args.file.now) (g.F.PageFile.faults c.evaluate.new.file) (g.F.PageFile.faults c.go_to.new.file) (g.K.Sink.faults c.args.sink.now) (g.K.Sink.faults c.args.sink.now) (g.K.Sink.faults c.go_to.new.sink) c.in-Ok-Some.ensures.counts.quiet refl c.go_to.ensures.counts

@@ -16,8 +16,8 @@ returns-in-Ok-Some-clause-acts g c = λ o s replies here.
     let sink = g.K.Sink.contents c.args.sink.now in
     let here2 = c.evaluate.ensures.stays sink o s replies here in
     let w = scene (engine c.put_into_status.new.machine) (g.F.PageFile.contents c.evaluate.new.file) (g.K.Sink.contents c.put_into_status.new.sink) in
-    let is : Some c.in-Ok-Some.value ≡ evaluated c.args.setting.now.symbols.now c.args.given.now s.machine = (rw c.in-Ok-Some.field-0-is at c.in-Ok-Some.ensures.tells) sink o s replies here in
-    with_value c.put_into_status.result turns c.in-Ok-Some.value (evaluated c.args.setting.now.symbols.now c.args.given.now s.machine) (λ (n : ℕ). status_put n s) o s replies w is (c.put_into_status.ensures.acts c.args.setting.now.limits.now o s replies here2)
+    let is : Some c.in-Ok-Some.value ≡ evaluated c.args.setting.now.legend.now c.args.given.now s.machine = (rw c.in-Ok-Some.field-0-is at c.in-Ok-Some.ensures.tells) sink o s replies here in
+    with_value c.put_into_status.result turns c.in-Ok-Some.value (evaluated c.args.setting.now.legend.now c.args.given.now s.machine) (λ (n : ℕ). status_put n s) o s replies w is (c.put_into_status.ensures.acts c.args.setting.now.limits.now o s replies here2)
 
 pub returns-in-Ok-None-clause-acts : goal.returns-in-Ok-None-clause-acts
 returns-in-Ok-None-clause-acts g c = λ o s replies here.
@@ -26,8 +26,8 @@ returns-in-Ok-None-clause-acts g c = λ o s replies here.
     let sink = g.K.Sink.contents c.args.sink.now in
     let here2 = c.evaluate.ensures.stays sink o s replies here in
     let w = scene (engine c.evaluate.new.machine) (g.F.PageFile.contents c.evaluate.new.file) (g.K.Sink.contents c.tell_no_value.new.sink) in
-    let is : None ≡ evaluated c.args.setting.now.symbols.now c.args.given.now s.machine = (rw c.in-Ok-None.field-0-is at c.in-Ok-None.ensures.tells) sink o s replies here in
-    without_value c.tell_no_value.result turns (evaluated c.args.setting.now.symbols.now c.args.given.now s.machine) (λ (n : ℕ). status_put n s) o s replies w is
+    let is : None ≡ evaluated c.args.setting.now.legend.now c.args.given.now s.machine = (rw c.in-Ok-None.field-0-is at c.in-Ok-None.ensures.tells) sink o s replies here in
+    without_value c.tell_no_value.result turns (evaluated c.args.setting.now.legend.now c.args.given.now s.machine) (λ (n : ℕ). status_put n s) o s replies w is
     (tells c.tell_no_value.result (g.K.Sink.faults c.args.sink.now) (g.K.Sink.faults c.tell_no_value.new.sink) o s replies no_value_line (engine c.evaluate.new.machine) (g.F.PageFile.contents c.evaluate.new.file) sink (g.K.Sink.contents c.tell_no_value.new.sink) here2 c.tell_no_value.ensures)
 
 pub returns-in-Err-clause-acts : goal.returns-in-Err-clause-acts
@@ -36,7 +36,7 @@ returns-in-Err-clause-acts g c = λ o s replies here.
     let turns = c.args.setting.now.limits.now.turns in
     let sink = g.K.Sink.contents c.args.sink.now in
     let here2 = c.evaluate.ensures.stays sink o s replies here in
-    not_done turns (status_act c.args.setting.now.symbols.now c.args.given.now s) o s replies (scene (engine c.evaluate.new.machine) (g.F.PageFile.contents c.evaluate.new.file) (g.K.Sink.contents c.args.sink.now)) here2
+    not_done turns (status_act c.args.setting.now.legend.now c.args.given.now s) o s replies (scene (engine c.evaluate.new.machine) (g.F.PageFile.contents c.evaluate.new.file) (g.K.Sink.contents c.args.sink.now)) here2
 
 pub returns-in-Ok-Some-clause-counts : goal.returns-in-Ok-Some-clause-counts
 returns-in-Ok-Some-clause-counts g c = counts_then c.put_into_status.result (g.F.PageFile.faults c.args.file.now) (g.F.PageFile.faults c.evaluate.new.file) (g.F.PageFile.faults c.evaluate.new.file) (g.K.Sink.faults c.args.sink.now) (g.K.Sink.faults c.args.sink.now) (g.K.Sink.faults c.put_into_status.new.sink) c.in-Ok-Some.ensures.counts.quiet refl (c.put_into_status.ensures.counts)

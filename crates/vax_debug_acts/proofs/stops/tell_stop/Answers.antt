@@ -10,18 +10,18 @@ use Rattle.vax_debug_acts.proofs.stops.tell_stop.Goals as goal
 pub returns-in-Ok-clause-replies : goal.returns-in-Ok-clause-replies
 returns-in-Ok-clause-replies g c = λ o s replies here.
     let limit = c.args.setting.now.limits.now.steps in
-    let symbols = c.args.setting.now.symbols.now in
+    let legend = c.args.setting.now.legend.now in
     let sink = g.K.Sink.contents c.args.sink.now in
     let w = scene (engine c.tell_stop_here.new.machine) (g.F.PageFile.contents c.tell_stop_here.new.file) (g.K.Sink.contents c.tell_stop_here.new.sink) in
-    let said = λ (z : List Seen). stop_text limit symbols c.args.plan.now.breaks (changes symbols c.args.seen.now z) s in
-    tells_as c.tell_stop_here.result o s replies (said c.in-Ok.after) (stop_reply limit symbols c.args.plan.now c.args.seen.now s) w
+    let said = λ (z : List Seen). stop_text limit legend c.args.plan.now.breaks (changes legend c.args.seen.now z) s in
+    tells_as c.tell_stop_here.result o s replies (said c.in-Ok.after) (stop_reply limit legend c.args.plan.now c.args.seen.now s) w
     (ap said (c.in-Ok.ensures.tells sink o s replies here))
     (c.tell_stop_here.ensures.replies o s replies (c.look.ensures.stays sink o s replies here))
 
 pub returns-in-Err-clause-replies : goal.returns-in-Err-clause-replies
 returns-in-Err-clause-replies g c = λ o s replies here.
     let sink = g.K.Sink.contents c.args.sink.now in
-    not_told o s replies (stop_reply c.args.setting.now.limits.now.steps c.args.setting.now.symbols.now c.args.plan.now c.args.seen.now s) (scene (engine c.look.new.machine) (g.F.PageFile.contents c.look.new.file) sink) (c.look.ensures.stays sink o s replies here)
+    not_told o s replies (stop_reply c.args.setting.now.limits.now.steps c.args.setting.now.legend.now c.args.plan.now c.args.seen.now s) (scene (engine c.look.new.machine) (g.F.PageFile.contents c.look.new.file) sink) (c.look.ensures.stays sink o s replies here)
 
 pub returns-in-Ok-clause-counts : goal.returns-in-Ok-clause-counts
 returns-in-Ok-clause-counts g c = counts_then c.tell_stop_here.result (g.F.PageFile.faults c.args.file.now) (g.F.PageFile.faults c.look.new.file) (g.F.PageFile.faults c.tell_stop_here.new.file) (g.K.Sink.faults c.args.sink.now) (g.K.Sink.faults c.args.sink.now) (g.K.Sink.faults c.tell_stop_here.new.sink) c.in-Ok.ensures.counts.quiet refl c.tell_stop_here.ensures.counts

@@ -6,4 +6,4 @@ use Rattle.vax_debug_replies.proofs.help.write_each_break.Goals as goal
 
 pub returns-in_err-write_break-clause-prefix : goal.returns-in_err-write_break-clause-prefix
 returns-in_err-write_break-clause-prefix g c =
-    on_err c.from_residual.result (prefix_next _ _ _ Report (break_line c.args.symbols.now) c.args.breaks.now c.loop-address.address-index _ (omega arith) c.loop-address.invariant.grew c.in_err-write_break.ensures.prefix)
+    on_err c.from_residual.result (prefix_next _ _ _ Report (break_line c.args.legend.now) c.args.breaks.now c.loop-address.address-index _ (omega arith) c.loop-address.invariant.grew c.in_err-write_break.ensures.prefix)

@@ -9,5 +9,5 @@ use Rattle.vax_debug_replies.proofs.help.write_each_break.Given as goal
 abbrev pub invariant-loop-address : goal.invariant-loop-address
 invariant-loop-address g l = record {
   quiet : (g.K.Sink.faults l.sink).count ≡ (g.K.Sink.faults l.fn.sink).count;
-  grew : Grew (g.K.Sink.contents l.fn.sink) (g.K.Sink.contents l.sink) (only Report (flat_map (break_line l.symbols) (take l.address-index l.breaks)));
+  grew : Grew (g.K.Sink.contents l.fn.sink) (g.K.Sink.contents l.sink) (only Report (flat_map (break_line l.legend) (take l.address-index l.breaks)));
 }

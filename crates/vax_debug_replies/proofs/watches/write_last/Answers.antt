@@ -1,4 +1,4 @@
-use Rattle.std.proofs.Common.{◌++◌, ◌∷◌, []}
+use Rattle.std.proofs.Common.{◌∷◌, []}
 use Rattle.vax_outside.proofs.Growth.{on_err, report_first}
 use Rattle.vax_debug_replies.specs.Values.{value}
 use Rattle.vax_debug_replies.proofs.Telling.{err_last}

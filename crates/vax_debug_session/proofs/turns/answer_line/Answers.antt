@@ -1,4 +1,4 @@
-use Rattle.std.proofs.Common.{◌∙◌, Some, sym, subst}
+use Rattle.std.proofs.Common.{Some, sym, subst}
 use Rattle.vax_machine.specs.Meaning.{engine}
 use Rattle.vax_console.specs.Ends.{scene}
 use Rattle.vax_debug_acts.specs.Pages.{pages_at}
@@ -14,17 +14,17 @@ use Rattle.vax_debug_session.proofs.turns.answer_line.Goals as goal
 
 pub returns-in-Some-clause-answers : goal.returns-in-Some-clause-answers
 returns-in-Some-clause-answers g c =
-    λ prompts. asks_end_by c.in-Some.end (terms c.args.setting.now.limits.now c.args.setting.now.symbols.now prompts) c.args.breaks.now c.args.breaks.now (exchange c.args.line.now (pages_at (engine c.args.machine.now))) c.read_line-said.result (scene (engine c.args.machine.now) (g.F.PageFile.contents c.args.file.now) (g.K.Sink.contents c.args.sink.now)) c.read_line-said.ensures.says (sym c.in-Some.ensures)
+    λ prompts. asks_end_by c.in-Some.end (terms c.args.setting.now.limits.now c.args.setting.now.legend.now prompts) c.args.breaks.now (exchange c.args.line.now (pages_at (engine c.args.machine.now))) c.read_line-said.result (scene (engine c.args.machine.now) (g.F.PageFile.contents c.args.file.now) (g.K.Sink.contents c.args.sink.now)) c.read_line-said.ensures.says (sym c.in-Some.ensures)
 
 pub returns-in-Ok-clause-answers : goal.returns-in-Ok-clause-answers
 returns-in-Ok-clause-answers g c =
-    λ prompts. carries (terms c.args.setting.now.limits.now c.args.setting.now.symbols.now prompts) c.args.breaks.now c.carry_out.new.breaks (exchange c.args.line.now (pages_at (engine c.args.machine.now))) c.read_line-said.result (scene (engine c.args.machine.now) (g.F.PageFile.contents c.args.file.now) (g.K.Sink.contents c.args.sink.now)) (scene (engine c.carry_out.new.machine) (g.F.PageFile.contents c.carry_out.new.file) (g.K.Sink.contents c.carry_out.new.sink)) tt c.read_line-said.ensures.says (sym c.in-None.ensures) c.in-Ok.ensures.acts c.in-Ok.ensures.breaks
+    λ prompts. carries (terms c.args.setting.now.limits.now c.args.setting.now.legend.now prompts) c.args.breaks.now c.carry_out.new.breaks (exchange c.args.line.now (pages_at (engine c.args.machine.now))) c.read_line-said.result (scene (engine c.args.machine.now) (g.F.PageFile.contents c.args.file.now) (g.K.Sink.contents c.args.sink.now)) (scene (engine c.carry_out.new.machine) (g.F.PageFile.contents c.carry_out.new.file) (g.K.Sink.contents c.carry_out.new.sink)) tt c.read_line-said.ensures.says (sym c.in-None.ensures) c.in-Ok.ensures.acts c.in-Ok.ensures.breaks
 
 pub returns-in-Err-clause-answers : goal.returns-in-Err-clause-answers
 returns-in-Err-clause-answers g c =
     λ prompts.
-    subst (λ (z : SessionEnd). Answers (Some z) (terms c.args.setting.now.limits.now c.args.setting.now.symbols.now prompts) c.args.breaks.now c.carry_out.new.breaks (exchange c.args.line.now (pages_at (engine c.args.machine.now))) (scene (engine c.args.machine.now) (g.F.PageFile.contents c.args.file.now) (g.K.Sink.contents c.args.sink.now)) (scene (engine c.carry_out.new.machine) (g.F.PageFile.contents c.carry_out.new.file) (g.K.Sink.contents c.carry_out.new.sink))) (sym c.end_of.ensures)
-    (cuts c.in-Err.failure (terms c.args.setting.now.limits.now c.args.setting.now.symbols.now prompts) c.args.breaks.now c.carry_out.new.breaks (exchange c.args.line.now (pages_at (engine c.args.machine.now))) c.read_line-said.result (scene (engine c.args.machine.now) (g.F.PageFile.contents c.args.file.now) (g.K.Sink.contents c.args.sink.now)) (scene (engine c.carry_out.new.machine) (g.F.PageFile.contents c.carry_out.new.file) (g.K.Sink.contents c.carry_out.new.sink)) c.read_line-said.ensures.says (sym c.in-None.ensures) c.in-Err.ensures.acts)
+    subst (λ (z : SessionEnd). Answers (Some z) (terms c.args.setting.now.limits.now c.args.setting.now.legend.now prompts) c.args.breaks.now c.carry_out.new.breaks (exchange c.args.line.now (pages_at (engine c.args.machine.now))) (scene (engine c.args.machine.now) (g.F.PageFile.contents c.args.file.now) (g.K.Sink.contents c.args.sink.now)) (scene (engine c.carry_out.new.machine) (g.F.PageFile.contents c.carry_out.new.file) (g.K.Sink.contents c.carry_out.new.sink))) (sym c.end_of.ensures)
+    (cuts c.in-Err.failure (terms c.args.setting.now.limits.now c.args.setting.now.legend.now prompts) c.args.breaks.now c.carry_out.new.breaks (exchange c.args.line.now (pages_at (engine c.args.machine.now))) c.read_line-said.result (scene (engine c.args.machine.now) (g.F.PageFile.contents c.args.file.now) (g.K.Sink.contents c.args.sink.now)) (scene (engine c.carry_out.new.machine) (g.F.PageFile.contents c.carry_out.new.file) (g.K.Sink.contents c.carry_out.new.sink)) c.read_line-said.ensures.says (sym c.in-None.ensures) c.in-Err.ensures.acts)
 
 pub returns-in-Some-clause-failed : goal.returns-in-Some-clause-failed
 returns-in-Some-clause-failed g c =

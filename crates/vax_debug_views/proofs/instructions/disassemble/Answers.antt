@@ -11,22 +11,22 @@ use Rattle.vax_debug_views.proofs.instructions.disassemble.Goals as goal
 
 pub returns-in-Ok-Some-clause-shows : goal.returns-in-Ok-Some-clause-shows
 returns-in-Ok-Some-clause-shows g c =
-    shows_behind (scene (engine c.args.machine.now) (g.F.PageFile.contents c.args.file.now) (g.K.Sink.contents c.args.sink.now)) (scene (engine c.evaluate.new.machine) (g.F.PageFile.contents c.evaluate.new.file) (g.K.Sink.contents c.args.sink.now)) (scene (engine c.show_instructions.new.machine) (g.F.PageFile.contents c.show_instructions.new.file) (g.K.Sink.contents c.show_instructions.new.sink)) c.show_instructions.result (instructions_shown c.args.symbols.now c.args.span.now.count c.in-Ok-Some.address) (disassembled c.args.symbols.now c.args.span.now) c.evaluate.ensures.stays
+    shows_behind (scene (engine c.args.machine.now) (g.F.PageFile.contents c.args.file.now) (g.K.Sink.contents c.args.sink.now)) (scene (engine c.evaluate.new.machine) (g.F.PageFile.contents c.evaluate.new.file) (g.K.Sink.contents c.args.sink.now)) (scene (engine c.show_instructions.new.machine) (g.F.PageFile.contents c.show_instructions.new.file) (g.K.Sink.contents c.show_instructions.new.sink)) c.show_instructions.result (instructions_shown c.args.legend.now c.args.span.now.count c.in-Ok-Some.address) (disassembled c.args.legend.now c.args.span.now) c.evaluate.ensures.stays
     (λ sink o s replies here.
-    let is : Some c.in-Ok-Some.address ≡ evaluated c.args.symbols.now c.args.span.now.from s.machine = (rw c.in-Ok-Some.field-0-is at c.in-Ok-Some.ensures.tells) sink o s replies here in
-    disassembled_there c.args.symbols.now c.args.span.now c.in-Ok-Some.address s.machine is)
+    let is : Some c.in-Ok-Some.address ≡ evaluated c.args.legend.now c.args.span.now.from s.machine = (rw c.in-Ok-Some.field-0-is at c.in-Ok-Some.ensures.tells) sink o s replies here in
+    disassembled_there c.args.legend.now c.args.span.now c.in-Ok-Some.address s.machine is)
     c.show_instructions.ensures.shows
 
 pub returns-in-Ok-None-clause-shows : goal.returns-in-Ok-None-clause-shows
 returns-in-Ok-None-clause-shows g c =
-    shows_behind (scene (engine c.args.machine.now) (g.F.PageFile.contents c.args.file.now) (g.K.Sink.contents c.args.sink.now)) (scene (engine c.evaluate.new.machine) (g.F.PageFile.contents c.evaluate.new.file) (g.K.Sink.contents c.args.sink.now)) (scene (engine c.evaluate.new.machine) (g.F.PageFile.contents c.evaluate.new.file) (g.K.Sink.contents c.reply_nowhere.new.sink)) c.reply_nowhere.result (λ (m : Flat). nowhere_line) (disassembled c.args.symbols.now c.args.span.now) c.evaluate.ensures.stays
+    shows_behind (scene (engine c.args.machine.now) (g.F.PageFile.contents c.args.file.now) (g.K.Sink.contents c.args.sink.now)) (scene (engine c.evaluate.new.machine) (g.F.PageFile.contents c.evaluate.new.file) (g.K.Sink.contents c.args.sink.now)) (scene (engine c.evaluate.new.machine) (g.F.PageFile.contents c.evaluate.new.file) (g.K.Sink.contents c.reply_nowhere.new.sink)) c.reply_nowhere.result (λ (m : Flat). nowhere_line) (disassembled c.args.legend.now c.args.span.now) c.evaluate.ensures.stays
     (λ sink o s replies here.
-    let is : None ≡ evaluated c.args.symbols.now c.args.span.now.from s.machine = (rw c.in-Ok-None.field-0-is at c.in-Ok-None.ensures.tells) sink o s replies here in
-    disassembled_nowhere c.args.symbols.now c.args.span.now s.machine is)
+    let is : None ≡ evaluated c.args.legend.now c.args.span.now.from s.machine = (rw c.in-Ok-None.field-0-is at c.in-Ok-None.ensures.tells) sink o s replies here in
+    disassembled_nowhere c.args.legend.now c.args.span.now s.machine is)
     (replied_shows (scene (engine c.evaluate.new.machine) (g.F.PageFile.contents c.evaluate.new.file) (g.K.Sink.contents c.args.sink.now)) (g.K.Sink.contents c.reply_nowhere.new.sink) c.reply_nowhere.result nowhere_line (λ (m : Flat). nowhere_line) (λ sink o s replies here. refl) c.reply_nowhere.ensures.replied)
 
 pub returns-in-Err-clause-shows : goal.returns-in-Err-clause-shows
-returns-in-Err-clause-shows g c = shows_cut (scene (engine c.args.machine.now) (g.F.PageFile.contents c.args.file.now) (g.K.Sink.contents c.args.sink.now)) (scene (engine c.evaluate.new.machine) (g.F.PageFile.contents c.evaluate.new.file) (g.K.Sink.contents c.args.sink.now)) (disassembled c.args.symbols.now c.args.span.now) c.evaluate.ensures.stays
+returns-in-Err-clause-shows g c = shows_cut (scene (engine c.args.machine.now) (g.F.PageFile.contents c.args.file.now) (g.K.Sink.contents c.args.sink.now)) (scene (engine c.evaluate.new.machine) (g.F.PageFile.contents c.evaluate.new.file) (g.K.Sink.contents c.args.sink.now)) (disassembled c.args.legend.now c.args.span.now) c.evaluate.ensures.stays
 
 pub returns-in-Ok-Some-clause-counts : goal.returns-in-Ok-Some-clause-counts
 returns-in-Ok-Some-clause-counts g c = counts_then c.show_instructions.result (g.F.PageFile.faults c.args.file.now) (g.F.PageFile.faults c.evaluate.new.file) (g.F.PageFile.faults c.show_instructions.new.file) (g.K.Sink.faults c.args.sink.now) (g.K.Sink.faults c.args.sink.now) (g.K.Sink.faults c.show_instructions.new.sink) c.in-Ok-Some.ensures.counts.quiet refl c.show_instructions.ensures.counts

@@ -8,7 +8,7 @@ use Rattle.vax_debug_views.proofs.instructions.show_instructions.Given as goal
 -- the instructions so far were shown
 abbrev pub invariant-loop : goal.invariant-loop
 invariant-loop g l = record {
-  shows : IsShowing (scene (engine l.fn.machine) (g.F.PageFile.contents l.fn.file) (g.K.Sink.contents l.fn.sink)) (scene (engine l.machine) (g.F.PageFile.contents l.file) (g.K.Sink.contents l.sink)) (instructions_shown l.symbols l.count l.fn.address) (instructions_shown l.symbols (l.count - l.counter) l.address);
+  shows : IsShowing (scene (engine l.fn.machine) (g.F.PageFile.contents l.fn.file) (g.K.Sink.contents l.fn.sink)) (scene (engine l.machine) (g.F.PageFile.contents l.file) (g.K.Sink.contents l.sink)) (instructions_shown l.legend l.count l.fn.address) (instructions_shown l.legend (l.count - l.counter) l.address);
   quiet : (g.F.PageFile.faults l.file).count ≡ (g.F.PageFile.faults l.fn.file).count;
   written : (g.K.Sink.faults l.sink).count ≡ (g.K.Sink.faults l.fn.sink).count;
 }

@@ -10,5 +10,5 @@ use Rattle.vax_debug_views.proofs.memory.show_stack.Goals as goal
 pub returns-clause-shows : goal.returns-clause-shows
 returns-clause-shows g c =
     let file = g.F.PageFile.contents c.args.file.now in
-    shows_behind (scene (engine c.args.machine.now) (g.F.PageFile.contents c.args.file.now) (g.K.Sink.contents c.args.sink.now)) (scene (engine c.args.machine.now) (g.F.PageFile.contents c.args.file.now) (g.K.Sink.contents c.args.sink.now)) (scene (engine c.show_values.new.machine) (g.F.PageFile.contents c.show_values.new.file) (g.K.Sink.contents c.show_values.new.sink)) c.show_values.result (values_shown c.args.symbols.now 4 c.args.count (slice_index c.core.result.now.regs 14)) (stack_shown c.args.symbols.now c.args.count) (λ sink o s replies here. here)
-    (λ sink o s replies here. stack_here c.args.symbols.now c.args.count c.core.result.now s.machine (c.core.ensures ∙ sym (same_core (engine c.args.machine.now) file s.machine here.at.means))) c.show_values.ensures.shows
+    shows_behind (scene (engine c.args.machine.now) (g.F.PageFile.contents c.args.file.now) (g.K.Sink.contents c.args.sink.now)) (scene (engine c.args.machine.now) (g.F.PageFile.contents c.args.file.now) (g.K.Sink.contents c.args.sink.now)) (scene (engine c.show_values.new.machine) (g.F.PageFile.contents c.show_values.new.file) (g.K.Sink.contents c.show_values.new.sink)) c.show_values.result (values_shown c.args.legend.now 4 c.args.count (slice_index c.core.result.now.regs 14)) (stack_shown c.args.legend.now c.args.count) (λ sink o s replies here. here)
+    (λ sink o s replies here. stack_here c.args.legend.now c.args.count c.core.result.now s.machine (c.core.ensures ∙ sym (same_core (engine c.args.machine.now) file s.machine here.at.means))) c.show_values.ensures.shows

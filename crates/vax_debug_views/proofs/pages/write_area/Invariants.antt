@@ -12,5 +12,5 @@ abbrev pub invariant-loop-k : goal.invariant-loop-k
 invariant-loop-k g l = record {
   quiet : (g.K.Sink.faults l.sink).count ≡ (g.K.Sink.faults l.fn.sink).count;
   grew : Grew (g.K.Sink.contents l.fn.sink) (g.K.Sink.contents l.sink)
-      (only Report (flat_map (λ k. page_shown l.symbols (pages_at (engine l.machine)) ((l.area.first + k) % 2 ^ 32)) (take l.k (range_with_len 0 l.area.pages))));
+      (only Report (flat_map (λ k. page_shown l.legend (pages_at (engine l.machine)) ((l.area.first + k) % 2 ^ 32)) (take l.k (range_with_len 0 l.area.pages))));
 }

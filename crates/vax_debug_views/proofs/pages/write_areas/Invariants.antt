@@ -11,5 +11,5 @@ use Rattle.vax_debug_views.proofs.pages.write_areas.Given as goal
 abbrev pub invariant-loop-area : goal.invariant-loop-area
 invariant-loop-area g l = record {
   quiet : (g.K.Sink.faults l.sink).count ≡ (g.K.Sink.faults l.fn.sink).count;
-  grew : Grew (g.K.Sink.contents l.fn.sink) (g.K.Sink.contents l.sink) (only Report (flat_map (area_shown l.symbols (pages_at (engine l.machine))) (take l.area-index l.areas)));
+  grew : Grew (g.K.Sink.contents l.fn.sink) (g.K.Sink.contents l.sink) (only Report (flat_map (area_shown l.legend (pages_at (engine l.machine))) (take l.area-index l.areas)));
 }

@@ -16,20 +16,20 @@ pub returns-in_err-write_frames-clause-prefix : goal.returns-in_err-write_frames
 unfolding pages_shown
 returns-in_err-write_frames-clause-prefix g c =
     let p = pages_at (engine c.args.machine.now) in
-    on_err c.from_residual.result (report_first (g.K.Sink.contents c.args.sink.now) (g.K.Sink.contents c.write_frames.new.sink) (frames_line p.frames) (flat_map (area_shown c.args.symbols.now p) p.areas) c.in_err-write_frames.ensures.prefix)
+    on_err c.from_residual.result (report_first (g.K.Sink.contents c.args.sink.now) (g.K.Sink.contents c.write_frames.new.sink) (frames_line p.frames) (flat_map (area_shown c.args.legend.now p) p.areas) c.in_err-write_frames.ensures.prefix)
 
 pub returns-clause-ok : goal.returns-clause-ok
 unfolding pages_shown
 returns-clause-ok g c =
     let p = pages_at (engine c.args.machine.now) in
     let is : c.areas.result.now ≡ p.areas = c.areas.ensures.areas ∙ c.space.ensures in
-    ok_last c.write_areas.result (g.K.Sink.contents c.args.sink.now) (g.K.Sink.contents c.write_frames.new.sink) (g.K.Sink.contents c.write_areas.new.sink) (frames_line p.frames) (flat_map (area_shown c.args.symbols.now p) p.areas) c.in_ok-write_frames.ensures.ok
-    (subst (λ (z : List Area). OnOk c.write_areas.result (Grew (g.K.Sink.contents c.write_frames.new.sink) (g.K.Sink.contents c.write_areas.new.sink) (only Report (flat_map (area_shown c.args.symbols.now p) z)))) is c.write_areas.ensures.ok)
+    ok_last c.write_areas.result (g.K.Sink.contents c.args.sink.now) (g.K.Sink.contents c.write_frames.new.sink) (g.K.Sink.contents c.write_areas.new.sink) (frames_line p.frames) (flat_map (area_shown c.args.legend.now p) p.areas) c.in_ok-write_frames.ensures.ok
+    (subst (λ (z : List Area). OnOk c.write_areas.result (Grew (g.K.Sink.contents c.write_frames.new.sink) (g.K.Sink.contents c.write_areas.new.sink) (only Report (flat_map (area_shown c.args.legend.now p) z)))) is c.write_areas.ensures.ok)
 
 pub returns-clause-prefix : goal.returns-clause-prefix
 unfolding pages_shown
 returns-clause-prefix g c =
     let p = pages_at (engine c.args.machine.now) in
     let is : c.areas.result.now ≡ p.areas = c.areas.ensures.areas ∙ c.space.ensures in
-    err_last c.write_areas.result (g.K.Sink.contents c.args.sink.now) (g.K.Sink.contents c.write_frames.new.sink) (g.K.Sink.contents c.write_areas.new.sink) (frames_line p.frames) (flat_map (area_shown c.args.symbols.now p) p.areas) c.in_ok-write_frames.ensures.ok
-    (subst (λ (z : List Area). OnErr c.write_areas.result (GrewByPrefix (g.K.Sink.contents c.write_frames.new.sink) (g.K.Sink.contents c.write_areas.new.sink) (only Report (flat_map (area_shown c.args.symbols.now p) z)))) is c.write_areas.ensures.prefix)
+    err_last c.write_areas.result (g.K.Sink.contents c.args.sink.now) (g.K.Sink.contents c.write_frames.new.sink) (g.K.Sink.contents c.write_areas.new.sink) (frames_line p.frames) (flat_map (area_shown c.args.legend.now p) p.areas) c.in_ok-write_frames.ensures.ok
+    (subst (λ (z : List Area). OnErr c.write_areas.result (GrewByPrefix (g.K.Sink.contents c.write_frames.new.sink) (g.K.Sink.contents c.write_areas.new.sink) (only Report (flat_map (area_shown c.args.legend.now p) z)))) is c.write_areas.ensures.prefix)

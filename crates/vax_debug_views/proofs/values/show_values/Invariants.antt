@@ -8,7 +8,7 @@ use Rattle.vax_debug_views.proofs.values.show_values.Given as goal
 -- the values so far were shown
 abbrev pub invariant-loop : goal.invariant-loop
 invariant-loop g l = record {
-  shows : IsShowing (scene (engine l.fn.machine) (g.F.PageFile.contents l.fn.file) (g.K.Sink.contents l.fn.sink)) (scene (engine l.machine) (g.F.PageFile.contents l.file) (g.K.Sink.contents l.sink)) (values_shown l.symbols l.size l.count l.fn.address) (values_shown l.symbols l.size (l.count - l.counter) l.address);
+  shows : IsShowing (scene (engine l.fn.machine) (g.F.PageFile.contents l.fn.file) (g.K.Sink.contents l.fn.sink)) (scene (engine l.machine) (g.F.PageFile.contents l.file) (g.K.Sink.contents l.sink)) (values_shown l.legend l.size l.count l.fn.address) (values_shown l.legend l.size (l.count - l.counter) l.address);
   quiet : (g.F.PageFile.faults l.file).count ≡ (g.F.PageFile.faults l.fn.file).count;
   written : (g.K.Sink.faults l.sink).count ≡ (g.K.Sink.faults l.fn.sink).count;
 }

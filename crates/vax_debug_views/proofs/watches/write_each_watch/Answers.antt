@@ -6,4 +6,4 @@ use Rattle.vax_debug_views.proofs.watches.write_each_watch.Goals as goal
 
 pub returns-in_err-write_watch-clause-prefix : goal.returns-in_err-write_watch-clause-prefix
 returns-in_err-write_watch-clause-prefix g c =
-    on_err c.from_residual.result (prefix_next _ _ _ Report (watch_shown c.args.symbols.now) c.args.watches.now c.loop-watch.watch-index _ (omega arith) c.loop-watch.invariant.grew c.in_err-write_watch.ensures.prefix)
+    on_err c.from_residual.result (prefix_next _ _ _ Report (watch_shown c.args.legend.now) c.args.watches.now c.loop-watch.watch-index _ (omega arith) c.loop-watch.invariant.grew c.in_err-write_watch.ensures.prefix)

@@ -9,5 +9,5 @@ use Rattle.vax_debug_views.proofs.watches.write_each_watch.Given as goal
 abbrev pub invariant-loop-watch : goal.invariant-loop-watch
 invariant-loop-watch g l = record {
   quiet : (g.K.Sink.faults l.sink).count ≡ (g.K.Sink.faults l.fn.sink).count;
-  grew : Grew (g.K.Sink.contents l.fn.sink) (g.K.Sink.contents l.sink) (only Report (flat_map (watch_shown l.symbols) (take l.watch-index l.watches)));
+  grew : Grew (g.K.Sink.contents l.fn.sink) (g.K.Sink.contents l.sink) (only Report (flat_map (watch_shown l.legend) (take l.watch-index l.watches)));
 }

@@ -1,14 +1,15 @@
 use Rattle.std.proofs.Common.{◌≡◌, ℕ, List, Some, None, true, false, sym, ap, subst, ◌∙◌}
-use Rattle.std.specs.Prelude.{Option, Result, MatchOption, Ok}
+use Rattle.std.specs.Prelude.{Option, Result, MatchOption, Ok, option_map}
 use Rattle.std.specs.Borrow.{Bor}
 use Rattle.std.specs.List.{find}
+use Rattle.vax_module.specs.declared.ExternalName.{ExternalName}
 use Rattle.vax_module.specs.declared.Module.{Module}
 use Rattle.vax_image.specs.declared.Base.{Base}
 use Rattle.vax_image.specs.declared.Image.{Image}
 use Rattle.vax_link.specs.declared.LinkError.{LinkError}
 use Rattle.vax_link.specs.declared.names.Names.{Names}
 use Rattle.vax_link.specs.declared.placed.Layout.{Layout}
-use Rattle.vax_link.specs.Names.{Name, duplicate, entries_from, externals, is_undefined, undefined}
+use Rattle.vax_link.specs.Names.{duplicate, entries_from, externals, is_at_fault, undefined}
 use Rattle.vax_link.specs.Tables.{IsNamed, IsTable}
 use Rattle.vax_link.specs.Layout.{is_too_large, pieces_of, sections_in}
 use Rattle.vax_link.specs.Placed.{IsLayout, IsValues}
@@ -21,9 +22,11 @@ known : (modules : List Module) (names : Names) (found : Result Names (Bor (List
 known modules names found named is = let P : Result Names (Bor (List ℕ)) → Type 0 = λ r. IsNamed modules r in subst P is named
 
 -- and of the names that they ask for the first at fault
-asked : (modules : List Module) (names : Names) (found : Option Name) → names.modules.now ≡ modules → found ≡ find (is_undefined names.modules.now (entries_from 0 modules)) (externals names.modules.now) → found ≡ undefined modules
+asked : (modules : List Module) (names : Names) (found : Option ExternalName) → names.modules.now ≡ modules → found ≡ find (is_at_fault names.modules.now (entries_from 0 modules)) (externals names.modules.now)
+    → option_map (λ e. e.name) found ≡ undefined modules
 asked modules names found same is =
-    is ∙ ap (λ (ms : List Module). find (is_undefined names.modules.now (entries_from 0 ms)) (externals names.modules.now)) (sym same) ∙ undefined_is names.modules.now modules same
+    ap (option_map (λ e. e.name)) (is ∙ ap (λ (ms : List Module). find (is_at_fault names.modules.now (entries_from 0 ms)) (externals names.modules.now)) (sym same))
+    ∙ undefined_is names.modules.now modules same
 
 pub returns-in-Err-clause-linked : goal.returns-in-Err-clause-linked
 returns-in-Err-clause-linked c =
@@ -37,8 +40,8 @@ returns-in-Some-clause-linked c =
     let modules = c.args.modules.now in
     let names = c.in-Ok.names in
     let k = known modules names c.in_ok-names.field-0 c.in_ok-names.ensures c.in-Ok.is in
-    let found : Some c.in-Some.name.now ≡ undefined modules = asked modules names (Some c.in-Some.name.now) k.1 (c.in-Some.ensures (entries_from 0 modules) k.2) in
-    links_undefined c.args.base modules c.in_ok-copy_of.field-0 k.0 (sym found ∙ ap Some (sym c.in_ok-copy_of.ensures))
+    let found : Some c.in-Some.external.now.name ≡ undefined modules = asked modules names (Some c.in-Some.external.now) k.1 (c.in-Some.ensures (entries_from 0 modules) k.2) in
+    links_undefined c.args.base modules c.in_ok-copy_of.field-0 k.0 (sym found ∙ ap Some (sym (c.in_ok-copy_of.ensures ∙ c.as_slice-name.ensures)))
 
 pub returns-in_default-2-clause-linked : goal.returns-in_default-2-clause-linked
 returns-in_default-2-clause-linked c =

@@ -1,4 +1,3 @@
-use Rattle.std.specs.List.Sorted.{IsNonDecreasingBy}
 use Rattle.std.proofs.lemmas.List.Sorted.{IsNonDecreasingBy-drop}
 use Rattle.vax_sched.proofs.DueLaws.{rules_for}
 use Rattle.vax_sched.proofs.due.fixed_now.Goals as goal

@@ -1,4 +1,4 @@
-use Rattle.std.proofs.Common.{◌≡◌, List, Ok, ap, refl, subst, sym, ◌∙◌}
+use Rattle.std.proofs.Common.{◌≡◌, List, Ok, ap, refl, subst, ◌∙◌}
 use Rattle.std.specs.Borrow.{Bor}
 use Rattle.vax_cli.specs.Said.{asked as asked_seen, names_of}
 use Rattle.vax_cli.specs.Words.{Text}
@@ -7,7 +7,7 @@ use Rattle.vax_command.specs.Around.{change}
 use Rattle.vax_command.specs.Reading.{ReadEnds, Reads}
 use Rattle.vax_command.specs.ReadingView.{texts}
 use Rattle.vax_command.specs.declared.status.Status.TheVariants.{ReadFault}
-use Rattle.vax_prelude.specs.Preludes.{Prelude, preludes_of}
+use Rattle.vax_prelude.specs.Preludes.{preludes_of}
 use Rattle.vax_prelude.specs.View.{preludes_seen}
 use Rattle.vax_top.proofs.TopLaws.{admits_behind, macros_lacking, macros_read, macros_unread}
 use Rattle.vax_top.proofs.top.carry_asked.Goals as goal

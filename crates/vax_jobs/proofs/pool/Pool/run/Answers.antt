@@ -2,7 +2,6 @@ use Rattle.std.proofs.Common.{◌≡◌, ◌<◌, ◌≤◌, ◌+◌, ◌^◌, �
 use Rattle.std.specs.Option.{option_map_or}
 use Rattle.std.proofs.lemmas.List.{length-map}
 use Rattle.std.proofs.lemmas.Option.{slice_get-get_or}
-use Rattle.vax_outside.specs.Channels.{only}
 use Rattle.vax_order.specs.declared.line.Line.{Line}
 use Rattle.vax_jobs.proofs.Ordering.{job_is, some_line}
 use Rattle.vax_jobs.proofs.Rounds.{IsNext, ends_cut, ends_done, ends_lost, ends_turns, may_go, under_begun, under_more}

@@ -1,4 +1,4 @@
-use Rattle.std.proofs.Common.{◌+◌, Err, Ok, ap, arith, refl, sym, ◌∙◌}
+use Rattle.std.proofs.Common.{◌+◌, ap, arith, refl, sym, ◌∙◌}
 use Rattle.vax_jobs.proofs.Advancing.{as_many, fails_behind, leads_far, made_all, made_more, may_again, some_made}
 use Rattle.vax_jobs.specs.Pool.{pooling_of}
 use Rattle.vax_jobs.specs.Running.{system_of}

@@ -4,9 +4,9 @@ use Rattle.vax_link.specs.Names.{entries_from}
 use Rattle.vax_link.specs.Placed.{IsLayout, bytes_in}
 use Rattle.vax_link.specs.Tables.{IsTable}
 use Rattle.std.proofs.Common.{map}
-use Rattle.vax_link.specs.Values.{name_value}
+use Rattle.vax_link.specs.Values.{external_value}
 use Rattle.vax_link.proofs.fields.Values.new.Given as goal
 
 abbrev pub invariant-loop-module : goal.invariant-loop-module
 invariant-loop-module l = (region : Base) → IsLayout l.layout region l.names.modules.now → IsTable l.names (entries_from 0 l.names.modules.now)
-    → bytes_in l.externals.items ≡ map (λ m. map (name_value region l.names.modules.now) m.externals) (take l.module-index l.names.modules.now)
+    → bytes_in l.externals.items ≡ map (λ m. map (external_value region l.names.modules.now) m.externals) (take l.module-index l.names.modules.now)

@@ -1,17 +1,16 @@
-use Rattle.std.proofs.Common.{Some, sym, ap, ◌∙◌}
-use Rattle.vax_link.specs.Names.{is_undefined}
+use Rattle.std.proofs.Common.{sym}
+use Rattle.vax_link.specs.Names.{is_at_fault}
 use Rattle.vax_link.proofs.NameLaws.{find_here, find_none_more}
 use Rattle.vax_link.proofs.names.Names.undefined_of.Goals as goal
 
-pub returns-then-is_undefined : goal.returns-then-is_undefined
-returns-then-is_undefined c = λ entries table.
-    let test = is_undefined c.args.self.now.modules.now entries in
-    let fault = ap test (sym c.as_slice.ensures) ∙ sym (c.if-is_undefined.ensures entries table) in
-    ap Some c.as_slice-then-is_undefined.ensures
-    ∙ sym (find_here test c.args.externals.now c.loop-name.name-index c.name-item.result c.loop-name-test.true c.name-item.is (c.loop-name.invariant entries table) fault)
+pub returns-then-is_at_fault : goal.returns-then-is_at_fault
+returns-then-is_at_fault c = λ entries table.
+    let test = is_at_fault c.args.self.now.modules.now entries in
+    let fault = sym (c.if-is_at_fault.ensures entries table) in
+    sym (find_here test c.args.externals.now c.loop-external.external-index c.external-item.result c.loop-external-test.true c.external-item.is (c.loop-external.invariant entries table) fault)
 
-pub loop-name-preserved : goal.loop-name-preserved
-loop-name-preserved c = λ entries table.
-    let test = is_undefined c.args.self.now.modules.now entries in
-    let fine = ap test (sym c.as_slice.ensures) ∙ sym (c.if-is_undefined.ensures entries table) in
-    find_none_more test c.args.externals.now c.loop-name.name-index c.name-item.result c.loop-name-test.true c.name-item.is (c.loop-name.invariant entries table) fine
+pub loop-external-preserved : goal.loop-external-preserved
+loop-external-preserved c = λ entries table.
+    let test = is_at_fault c.args.self.now.modules.now entries in
+    let fine = sym (c.if-is_at_fault.ensures entries table) in
+    find_none_more test c.args.externals.now c.loop-external.external-index c.external-item.result c.loop-external-test.true c.external-item.is (c.loop-external.invariant entries table) fine

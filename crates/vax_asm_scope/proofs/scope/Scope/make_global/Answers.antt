@@ -1,8 +1,0 @@
-use Rattle.vax_asm_scope.specs.View.{scope_in}
-use Rattle.vax_asm_scope.proofs.Range.{global_is_in}
-use Rattle.vax_asm_scope.proofs.scope.Scope.make_global.Goals as goal
-
-pub invariant_of-drop : goal.invariant_of-drop
-invariant_of-drop c =
-    let before = c.replace-tables.result in
-    record { in_range = global_is_in c.args.text.now (scope_in before.tables) (scope_in c.make_global.new.self) before.in_range c.in_ok-make_global.ensures }
