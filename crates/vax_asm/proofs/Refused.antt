@@ -114,6 +114,7 @@ directive_refused None directive.Default origin line tokens s kind e = absurd cc
 directive_refused None directive.Save origin line tokens s kind e = absurd cc
 directive_refused None directive.Restore origin line tokens s kind e = absurd cc
 directive_refused None directive.OperandType origin line tokens s kind e = absurd cc
+directive_refused None directive.Mask origin line tokens s kind e = absurd cc
 directive_refused None directive.Listing origin line tokens s kind e = absurd cc
 directive_refused None directive.End origin line tokens s kind e = absurd cc
 directive_refused (Some label) d origin line tokens s kind e = absurd cc

@@ -19,6 +19,7 @@ use Rattle.vax_macro.specs.declared.error.FaultKind.TheVariants as fault
 use Rattle.vax_asm_labels.specs.Contexts.{restored_stated, saved_stated}
 use Rattle.vax_asm_labels.specs.Defaults.{default_stated}
 use Rattle.vax_asm_labels.specs.Functions.{functions_stated}
+use Rattle.vax_asm_labels.specs.Masks.{mask_stated}
 use Rattle.vax_asm_labels.specs.Numbers.{number_stated}
 use Rattle.vax_asm_labels.specs.Naming.{Assigned, label_stated, assignment_stated, section_stated, entry_stated, names_stated, end_stated}
 use Rattle.vax_asm_names.specs.declared.types.Linkage.TheVariants as links
@@ -117,6 +118,7 @@ directed directive.Save origin line tokens s = saved_stated line tokens s
 directed directive.Restore origin line tokens s = restored_stated tokens s
 directed directive.Listing origin line tokens s = Ok s
 directed directive.OperandType origin line tokens s = type_stated origin line tokens s
+directed directive.Mask origin line tokens s = mask_stated origin line tokens s
 directed directive.Error origin line tokens s = Err fault.Message
 directed directive.End origin line tokens s = end_stated line tokens s
 

@@ -21,7 +21,7 @@ use vax_asm_data::{TextForm, addresses, align, data, even, odd, space, text};
 use vax_asm_first::{Assignment, Origin, Refused, Standing, first_of};
 use vax_asm_instruction::reference;
 use vax_asm_labels::{
-    assignment, default, end, entry, functions, label, names, restore, save, section,
+    assignment, default, end, entry, functions, label, mask, names, restore, save, section,
 };
 use vax_asm_scope::Linkage;
 use vax_asm_statement::{Body, Directive, Statement, read_statement, text_of};
@@ -90,6 +90,7 @@ fn direct(
         Directive::Save => save(standing, alloc, line, operands),
         Directive::Restore => restore(standing, alloc, operands),
         Directive::OperandType => operand_type(standing, alloc, origin, line, operands),
+        Directive::Mask => mask(standing, alloc, origin, line, operands),
         Directive::Listing => Ok(()),
         Directive::Error => Err(Refused::Fault(FaultKind::Message)),
         Directive::End => end(standing, alloc, line, operands),

@@ -6,7 +6,7 @@ ghost use Rattle.vax_asm_causes.specs.Printed.{ArePrinted};
 use crate::count::count_cause;
 use crate::facts::Facts;
 use crate::form::form_cause;
-use crate::names::{are_same, definition_beside, definition_of, is_local};
+use crate::names::{are_same, definition_beside, definition_of, has_entry, is_local};
 use crate::range::range_cause;
 use crate::statement::{LONGEST, Statement, is_name, operands_of, parts_of, pieces_of, text_of};
 use crate::words::{Found, as_printed, at, cause_at, decimal};
@@ -96,6 +96,27 @@ fn local_cause(alloc: Global, place: Place<'_>, label: Piece) -> Result<Found, N
     }
 }
 
+/// The name in a `.MASK` that no `.ENTRY` of the source has.
+fn masked_entry(place: Place<'_>, operands: &[Piece], operator: Piece) -> Option<Piece> {
+    let entry = *operands.first()?;
+    let name = text_of(place.line, entry);
+    if are_same(text_of(place.line, operator), b".MASK") && !has_entry(place.source, name) {
+        Some(entry)
+    } else {
+        None
+    }
+}
+
+/// Which name is that of no entry.
+fn mask_cause(alloc: Global, place: Place<'_>, entry: Piece) -> Result<Found, NoMemory> {
+    let name = text_of(place.line, entry);
+    cause_at(
+        alloc,
+        entry.start,
+        &[b": no line of this file has `.ENTRY ", name, b"`"],
+    )
+}
+
 /// Which name has no value.
 fn undefined_cause(
     alloc: Global,
@@ -104,6 +125,9 @@ fn undefined_cause(
     operator: Piece,
 ) -> Result<Found, NoMemory> {
     let mut other: Option<Piece> = None;
+    if let Some(entry) = masked_entry(place, operands, operator) {
+        return mask_cause(alloc, place, entry);
+    }
     for piece in operands {
         let name = text_of(place.line, *piece);
         if is_name(*piece) && is_local(name) {

@@ -68,6 +68,27 @@ pub fn is_definition(line: &[u8], name: &[u8]) -> bool {
     matches!(rest.first(), Some(b':' | b'=')) && are_same(word, name)
 }
 
+/// Whether a line is the entry with a name.
+fn is_entry(line: &[u8], name: &[u8]) -> bool {
+    let text = line.split_at(blanks(line)).1;
+    let (word, behind) = text.split_at(name_length(text));
+    let rest = behind.split_at(blanks(behind)).1;
+    let entry = rest.split_at(name_length(rest)).0;
+    are_same(word, b".ENTRY") && are_same(entry, name)
+}
+
+/// Whether a line of a source is the entry with a name.
+pub(crate) fn has_entry(source: &[u8], name: &[u8]) -> bool {
+    let mut rest = source;
+    while let Some((line, behind)) = next_line(rest) {
+        if is_entry(line, name) {
+            return true;
+        }
+        rest = behind;
+    }
+    false
+}
+
 /// Whether a line is among these.
 fn is_among(lines: &[u32], number: u32) -> bool {
     lines.iter().any(|line| *line == number)

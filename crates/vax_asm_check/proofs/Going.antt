@@ -18,7 +18,7 @@ pub goes_past : (o : Origin) (text : List ℕ) (a : Assembly) (ended : Option �
 unfolding stated
 goes_past o text a ended fs next e = ap (λ b. with_faults fs (cond b (next a ended) (carried o (placed o text a.standing) a next))) e
 
-here : (o : Origin) (text : List ℕ) (a : Assembly) (ended : Option ℕ) (next : Onward) → is_ended ended o.place ≡ false → stated o text a ended next ≡ carried o (placed o text a.standing) a next
+pub here : (o : Origin) (text : List ℕ) (a : Assembly) (ended : Option ℕ) (next : Onward) → is_ended ended o.place ≡ false → stated o text a ended next ≡ carried o (placed o text a.standing) a next
 unfolding stated
 here o text a ended next e = ap (λ b. cond b (next a ended) (carried o (placed o text a.standing) a next)) e
 

@@ -5,3 +5,4 @@ pub mod Going
 pub mod Ranking
 pub mod Restating
 pub mod Surveying
+pub mod Telling

@@ -1,13 +1,17 @@
 -- What the code's types mean.
-use Rattle.std.specs.Prelude.{◌≡◌, ℕ, List, map}
+use Rattle.std.specs.Prelude.{◌≡◌, ℕ, Bool, if◌then◌else◌, List, ◌∷◌, ◌++◌, map}
 use Rattle.vax_asm.specs.View.{assembly_of}
 use Rattle.vax_asm.specs.Walk.{Assembly, nothing}
+use Rattle.vax_asm_check.specs.Faultless.{Following, said_at, stated as stated_faultless}
+use Rattle.vax_asm_check.specs.Messages.{Message, messages_in}
 use Rattle.vax_asm_check.specs.Restating.{Said, restated}
 use Rattle.vax_asm_check.specs.declared.left.Left.{Left}
 use Rattle.vax_asm_check.specs.declared.left.Stated.{Stated}
+use Rattle.vax_asm_check.specs.declared.notes.Message as code_message
 use Rattle.vax_asm_check.specs.declared.survey.Survey.{Survey}
 use Rattle.vax_asm_faults.specs.Survey.{Onward, stated, with_faults}
 use Rattle.vax_asm_first.specs.declared.types.Origin.{Origin}
+use Rattle.vax_dialect.specs.declared.Dialect.{Dialect}
 
 abbrev pub left_of : Left → Assembly
 left_of l = assembly_of l.standing l.assignments
@@ -23,3 +27,18 @@ IsKept s = restated (map said_of s.stood.items) (nothing s.dialect) ≡ left_of 
 abbrev pub GoesOn : Origin → (text : List ℕ) → (old new : Survey) → Type 0
 GoesOn origin text old new =
     (next : Onward) → with_faults old.faults.items (stated origin text (left_of old.left) old.ended next) ≡ with_faults new.faults.items (next (left_of new.left) new.ended)
+
+abbrev pub message_seen : code_message.Message → Message
+message_seen m = record { tone = m.tone; origin = m.origin; text = m.text.items }
+
+-- A statement is one without a fault that is carried out, or none, whatever comes behind it.
+abbrev pub StandsOn : Origin → (text : List ℕ) → (stands : Bool) → (old new : Survey) → Type 0
+StandsOn origin text stands old new =
+    (next : Following) → stated_faultless (said_at origin text) (left_of old.left) old.ended next
+    ≡ (if stands then said_at origin text ∷ next (left_of new.left) new.ended else next (left_of new.left) new.ended)
+
+-- A statement adds the message that it is to those before, if it has no fault, whatever comes behind it.
+abbrev pub TellsOn : Dialect → Origin → (text : List ℕ) → (old new : Survey) → (before after : List Message) → Type 0
+TellsOn dialect origin text old new before after =
+    (next : Following) → before ++ messages_in dialect (stated_faultless (said_at origin text) (left_of old.left) old.ended next)
+    ≡ after ++ messages_in dialect (next (left_of new.left) new.ended)

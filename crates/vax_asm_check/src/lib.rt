@@ -8,6 +8,7 @@ mod circles;
 mod laws;
 mod left;
 mod notes;
+mod operators;
 mod sorting;
 mod survey;
 mod walk;

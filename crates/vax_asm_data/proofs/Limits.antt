@@ -1,12 +1,12 @@
 -- More than a module can have.
 use Rattle.std.proofs.Common.{◌≡◌, ◌<◌, ◌≤◌, ◌+◌, ◌*◌, ℕ, Bool, true, false, Some, Result, Ok, Err, refl, ap, ◌∙◌, arith}
 use Rattle.std.proofs.lemmas.Bool.{lt-ltb}
-use Rattle.std.specs.Prelude.{◌^◌, ◌||◌, if◌then◌else◌, is_some}
+use Rattle.std.specs.Prelude.{◌^◌, ◌||◌, if◌then◌else◌}
 use Rattle.vax_asm_data.specs.Data.{fixed, room, too_many}
 use Rattle.vax_asm_encode.specs.Operands.{item_bytes}
 use Rattle.vax_asm_encode.specs.declared.operand.DataKind.{DataKind}
 use Rattle.vax_asm_encode.specs.declared.operand.DataKind.TheVariants.{Number, Signed, Octaword}
-use Rattle.vax_asm_sections.specs.Layout.{Part, Zeros, Field, Sections, current_of, with_part, put, put_within, module_limit}
+use Rattle.vax_asm_sections.specs.Layout.{Part, Zeros, Field, Sections, current_of, only_counts, with_part, put, put_within, module_limit}
 use Rattle.vax_asm_sections.specs.declared.types.Refusal.{Refusal}
 use Rattle.vax_asm_sections.specs.declared.types.Refusal.TheVariants.{Absolute, TooLong}
 use Rattle.vax_macro.specs.declared.error.FaultKind.TheVariants as fault
@@ -43,9 +43,9 @@ either_fault false s = refl
 pub items_too_many : (kind : DataKind) (site : Site) (n : ℕ) (filling : Filling) (s : Standing) → 16777216 < n → fixed kind site n filling s ≡ record { fault = Some (too_many s); standing = s }
 unfolding put
 items_too_many kind site n filling s h =
-    ap (λ (r : Result (Sections Fixup) Refusal). after_change s (with_sections s (if is_some (current_of s.sections).absolute then Err Absolute else r)))
+    ap (λ (r : Result (Sections Fixup) Refusal). after_change s (with_sections s (if only_counts (current_of s.sections) then Err Absolute else r)))
     (too_long (item_bytes kind * n) (Field (record { origin = site.origin; at = (current_of s.sections).size; content = Data kind n; filling = filling })) s.sections (omega (arith, h, at_least kind n)))
-    ∙ either_fault (is_some (current_of s.sections).absolute) s
+    ∙ either_fault (only_counts (current_of s.sections)) s
 
 zeros_too_long : (n : ℕ) (s : Sections Fixup) → 16777216 < n → put n (Zeros n) s ≡ Err TooLong
 unfolding put

@@ -1,12 +1,12 @@
 -- The directives of data (VAX MACRO and Instruction Set Reference Manual, "VAX MACRO assembler directives": `.BYTE` to
 -- `.QUAD`, `.OCTA`, `.SIGNED_BYTE`, `.SIGNED_WORD`, `.ADDRESS`, `.ASCII` to `.ASCIZ`, `.ASCID`, `.BLKB` to `.BLKQ`, `.BLKO`, `.ALIGN`,
 -- `.EVEN`, `.ODD`).
-use Rattle.std.specs.Prelude.{ℕ, pos, ◌+◌, ◌-◌, ◌*◌, ◌/◌, ◌%◌, ◌^◌, Bool, true, false, ◌&&◌, ◌==◌, nat_lt, nat_le, if◌then◌else◌, List, [], ◌∷◌, length, map, replicate, take, drop, Option, Some, None, Result, Ok, Err, codes, is_some}
+use Rattle.std.specs.Prelude.{ℕ, pos, ◌+◌, ◌-◌, ◌*◌, ◌/◌, ◌%◌, ◌^◌, Bool, true, false, ◌&&◌, ◌==◌, nat_lt, nat_le, if◌then◌else◌, List, [], ◌∷◌, length, map, replicate, take, drop, Option, Some, None, Result, Ok, Err, codes}
 use Rattle.std.specs.Int.{w64, int_wrapping_add}
 use Rattle.vax_asm_encode.specs.Operands.{item_bytes, item_field}
 use Rattle.vax_asm_encode.specs.declared.operand.DataKind.{DataKind}
 use Rattle.vax_asm_encode.specs.declared.operand.DataKind.TheVariants.{Number}
-use Rattle.vax_asm_sections.specs.Layout.{Part, Zeros, Bytes, Field, current_of, gap, place_in, put, aligned}
+use Rattle.vax_asm_sections.specs.Layout.{Part, Zeros, Bytes, Field, current_of, gap, only_counts, place_in, put, aligned}
 use Rattle.vax_dialect.specs.Differences.{has_empty_items, has_further_directives}
 use Rattle.vax_lex.specs.Characters.{spells}
 use Rattle.vax_lex.specs.Grammar.{symbols_of}
@@ -28,9 +28,9 @@ use Rattle.vax_asm_statement.specs.Items.{Item, item_of, whole, name_alone, Piec
 use Rattle.vax_asm_statement.specs.Parts.{parts}
 use Rattle.vax_word.specs.declared.Size.TheVariants as size
 
--- More items than a module can have are a fault, and in an absolute section all are.
+-- More items than a module can have are a fault, and in a section that only counts all are.
 abbrev pub too_many : Standing → FaultKind
-too_many s = if is_some (current_of s.sections).absolute then fault.Form else fault.Large
+too_many s = if only_counts (current_of s.sections) then fault.Form else fault.Large
 
 -- An item of data: an expression that a field of this kind holds, so many times.
 abbrev pub fixed : DataKind → Site → ℕ → Filling → Standing → Progress

@@ -25,11 +25,11 @@ use vax_word::Size;
 /// More items than this have more bytes than a module can have.
 const MOST_ITEMS: u64 = 16_777_216;
 
-/// The fault of more items than a module can have: in an absolute section all are one.
+/// The fault of more items than a module can have: in a section that only counts all are one.
 fn too_many(standing: &Standing) -> FaultKind
     ensures { result ≡ too_many (standing_of standing.now) }
 {
-    if standing.in_absolute() {
+    if standing.only_counts() {
         FaultKind::Form
     } else {
         FaultKind::Large

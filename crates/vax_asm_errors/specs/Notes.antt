@@ -1,5 +1,5 @@
 -- The messages that a source gives, as text.
-use Rattle.std.specs.Prelude.{◌+◌, List, [], ◌∷◌, ◌++◌, codes, decimal}
+use Rattle.std.specs.Prelude.{◌+◌, [], ◌∷◌, ◌++◌, codes, decimal}
 use Rattle.vax_asm_check.specs.declared.notes.Tone.{Tone}
 use Rattle.vax_asm_check.specs.declared.notes.Tone.TheVariants.{Note, Warning}
 use Rattle.vax_asm_errors.specs.Errors.{line_at, mark, noted}
@@ -24,5 +24,5 @@ note_words tone (b ∷ words) = b ∷ words
 -- a message with its place, how it is meant, the line of the source with a mark below a column, and the line of an expansion
 unfoldable pub note : Title → (source : Text) → Noted → Text
 note title source n =
-    name_at title n.said.fault.origin.line ++ codes ":" ++ decimal (number_at title n.said.fault.origin.line) ++ codes ":" ++ decimal (n.said.column + 1) ++ tone_words n.tone
-    ++ note_words n.tone n.said.cause.items ++ codes "\n" ++ mark (line_at n.said.fault.origin.line (lines source)) n.said.column ++ noted title n.said.fault.origin.line n.said.expansion.items
+    name_at title n.message.origin.line ++ codes ":" ++ decimal (number_at title n.message.origin.line) ++ codes ":" ++ decimal (n.said.column + 1) ++ tone_words n.message.tone
+    ++ note_words n.message.tone n.said.cause.items ++ codes "\n" ++ mark (line_at n.message.origin.line (lines source)) n.said.column ++ noted title n.message.origin.line n.said.expansion.items

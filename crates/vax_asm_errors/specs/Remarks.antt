@@ -6,6 +6,8 @@ use Rattle.vax_asm_causes.specs.Remarks.{Asked, remarks}
 use Rattle.vax_asm_causes.specs.declared.remarks.About.{About}
 use Rattle.vax_asm_causes.specs.declared.remarks.About.TheVariants.{Place, Register, Mask, Unused}
 use Rattle.vax_asm_causes.specs.declared.remarks.Remark.{Remark}
+use Rattle.vax_asm_check.specs.Messages.{messages}
+use Rattle.vax_asm_check.specs.View.{message_seen}
 use Rattle.vax_asm_errors.specs.Errors.{IsPlain, line_at, mark, shown}
 use Rattle.vax_asm_errors.specs.Notes.{note}
 use Rattle.vax_asm_errors.specs.declared.notes.Noted.{Noted}
@@ -43,8 +45,9 @@ remark_at title asked line r =
 abbrev pub remark : Title → (source asked : Text) → Remark → Text
 remark title source asked r = remark_at title asked (line_at r.line (lines source)) r
 
--- Messages that a source of a dialect gives were added, whose words can be printed, and behind them exactly these remarks on it, each as its text.
+-- The messages that a source of a dialect gives were added, each with a column and words on it, and behind them exactly these remarks on it, each as its text.
 pub record IsRemarked (dialect : Dialect) (title : Title) (source : Text) (asked : Asked) (before after : Text) : Type 0 where
   pub notes : List Noted
+  pub told : map (λ n. message_seen n.message) notes ≡ messages dialect source
   pub plain : All (λ n. IsPlain n.said) notes
   pub text : after ≡ before ++ flat_map (note title source) notes ++ flat_map (remark title source asked.name) (remarks dialect asked source)

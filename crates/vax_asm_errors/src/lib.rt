@@ -12,7 +12,10 @@ mod said;
 mod walk;
 
 pub use errors::{MOST, Source, push_errors};
-pub use laws::{errors_begin_with_the_refusal, sources_that_assemble_have_no_errors};
+pub use laws::{
+    errors_begin_with_the_refusal, sources_that_assemble_have_no_errors,
+    sources_without_further_directives_have_remarks_alone,
+};
 pub use notes::Noted;
 pub use remarks::push_remarks;
 pub use said::Said;

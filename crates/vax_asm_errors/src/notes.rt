@@ -1,7 +1,9 @@
 // The messages that a source gives, as text.
 
-ghost use Rattle.std.specs.Prelude.{◌≡◌, ◌++◌, All, IfOk, OnOk};
+ghost use Rattle.std.specs.Prelude.{◌≡◌, ◌++◌, All, IfOk, OnOk, map};
 ghost use Rattle.std.specs.List.{flat_map};
+ghost use Rattle.vax_asm_check.specs.Messages.{messages as messages_given};
+ghost use Rattle.vax_asm_check.specs.View.{message_seen};
 ghost use Rattle.vax_asm_errors.specs.Errors.{IsPlain};
 ghost use Rattle.vax_asm_errors.specs.Notes.{note, note_words, own_words, tone_words};
 ghost use Rattle.vax_prelude.specs.View.{title_seen};
@@ -20,7 +22,7 @@ use vax_space::NoMemory;
 /// A message that a source gives, as it is told.
 #[derive(Drop)]
 pub struct Noted {
-    pub tone: Tone,
+    pub message: Message,
     pub said: Said,
 }
 
@@ -62,15 +64,15 @@ fn push_message(out: &mut Vec<u8>, source: Source<'_>, one: &Noted) -> Result<()
     ensures { OnOk result (out.new.items
         ≡ out.old.items ++ note (title_seen source.entry.title) source.entry.text.now one.now) }
 {
-    let line = one.said.fault.origin.line;
+    let line = one.message.origin.line;
     let (name, number) = told_in(source.title, line as usize);
     push(out, name)?;
     push(out, b":")?;
     push_number(out, number as u64)?;
     push(out, b":")?;
     push_number(out, u64::from(one.said.column) + 1)?;
-    push(out, tone_words(one.tone))?;
-    push_words(out, one.tone, &one.said.cause)?;
+    push(out, tone_words(one.message.tone))?;
+    push_words(out, one.message.tone, &one.said.cause)?;
     push(out, b"\n")?;
     push_mark(out, line_at(source.text, line as usize), one.said.column)?;
     push_note(out, source.title, line, &one.said.expansion)
@@ -94,7 +96,8 @@ pub(crate) fn push_messages(
 
 /// A message as it is told.
 fn one_noted(alloc: Global, source: Source<'_>, message: Message) -> Result<Noted, NoMemory>
-    ensures { IfOk result (λ n. IsPlain n.said) }
+    ensures message { IfOk result (λ n. message_seen n.message ≡ message_seen message) }
+    ensures plain { IfOk result (λ n. IsPlain n.said) }
 {
     let Message { tone, origin, text } = message;
     let fault = Fault {
@@ -103,12 +106,16 @@ fn one_noted(alloc: Global, source: Source<'_>, message: Message) -> Result<Note
     };
     let seen = Seen::of(alloc, text);
     let said = said_of_seen(alloc, source, &[], &seen, fault)?;
-    Ok(Noted { tone, said })
+    let Seen { text, .. } = seen;
+    let message = Message { tone, origin, text };
+    Ok(Noted { message, said })
 }
 
 /// The messages that a source gives, as they are told.
 pub(crate) fn notes_of(alloc: Global, source: Source<'_>) -> Result<Vec<Noted>, NoMemory>
-    ensures { IfOk result (λ v. All (λ n. IsPlain n.said) v.items) }
+    ensures told { IfOk result (λ v. map (λ n. message_seen n.message) v.items
+        ≡ messages_given source.entry.dialect source.entry.text.now) }
+    ensures plain { IfOk result (λ v. All (λ n. IsPlain n.said) v.items) }
 {
     let found = messages(alloc, source.dialect, source.text)?;
     let mut all = Vec::new(alloc);

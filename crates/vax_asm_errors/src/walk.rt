@@ -1,5 +1,7 @@
 // The texts of statements with a fault, and what is known there.
 
+ghost use Rattle.std.specs.Prelude.{◌≡◌};
+
 use crate::errors::Source;
 use crate::facts::{facts_behind, facts_here};
 use std::alloc::Global;
@@ -26,7 +28,9 @@ pub(crate) struct Seen {
 
 impl Seen {
     /// A statement with this text of which nothing more is known.
-    pub(crate) fn of(alloc: Global, text: Vec<u8>) -> Seen {
+    pub(crate) fn of(alloc: Global, text: Vec<u8>) -> Seen
+        ensures { result.text ≡ text }
+    {
         Seen {
             text,
             facts: Facts::new(alloc),

@@ -29,26 +29,26 @@ IsData (Zeros n) = ⊥
 IsData (Bytes bytes) = Unit {0}
 IsData (Field f) = Unit {0}
 
-none_absolute : (o : Option ℕ) → is_some o ≡ false → o ≡ None
-none_absolute None h = refl
-none_absolute (Some at) h = absurd cc
+none_counted : (o : Option ℕ) → is_some o ≡ false → o ≡ None
+none_counted None h = refl
+none_counted (Some at) h = absurd cc
 
-data_relative : (x : Section Fixup) (p : Part Fixup) → IsData p → refuses x p ≡ false → x.absolute ≡ None
-data_relative x (Zeros n) sort h = absurd sort
-data_relative x (Bytes bytes) sort h = none_absolute x.absolute h
-data_relative x (Field f) sort h = none_absolute x.absolute h
+data_held : (x : Section Fixup) (p : Part Fixup) → IsData p → refuses x p ≡ false → x.counter ≡ None
+data_held x (Zeros n) sort h = absurd sort
+data_held x (Bytes bytes) sort h = none_counted x.counter h
+data_held x (Field f) sort h = none_counted x.counter h
 
--- where data was added, the section isn't absolute
-pub put_relative : (n : ℕ) (p : Part Fixup) (s : Standing) → IsData p → (added n p s).fault ≡ None → (current_of s.sections).absolute ≡ None
-put_relative n p s sort h = data_relative (current_of s.sections) p sort (put_both n p s h).1
+-- where data was added, the section doesn't only count
+pub put_held : (n : ℕ) (p : Part Fixup) (s : Standing) → IsData p → (added n p s).fault ≡ None → (current_of s.sections).counter ≡ None
+put_held n p s sort h = data_held (current_of s.sections) p sort (put_both n p s h).1
 
-none_refused : (x : Section Fixup) (p : Part Fixup) → x.absolute ≡ None → refuses x p ≡ false
+none_refused : (x : Section Fixup) (p : Part Fixup) → x.counter ≡ None → refuses x p ≡ false
 none_refused x (Zeros n) e = refl
 none_refused x (Bytes bytes) e = ap is_some e
 none_refused x (Field f) e = ap is_some e
 
--- what one that isn't absolute has room for is added
-pub put_room : (n : ℕ) (p : Part Fixup) (s : Standing) → (current_of s.sections).absolute ≡ None → exceeds (current_of s.sections).size s.sections.total n ≡ false
+-- what one that doesn't only count has room for is added
+pub put_room : (n : ℕ) (p : Part Fixup) (s : Standing) → (current_of s.sections).counter ≡ None → exceeds (current_of s.sections).size s.sections.total n ≡ false
     → added n p s ≡ record { fault = None; standing = record s { sections = with_part n p s.sections } }
 unfolding put
 put_room n p s e room =
@@ -57,6 +57,6 @@ put_room n p s e room =
     ap (λ (a : Bool). after_change s (with_sections s (if a then Err Absolute else (if exceeds (place_in x) s.sections.total n then Err TooLong else Ok (with_part n p s.sections))))) (none_refused x p e)
     ∙ ap (λ (b : Bool). after_change s (with_sections s (if b then Err TooLong else Ok (with_part n p s.sections)))) long
 
--- one that isn't absolute has the bytes
-pub longer_relative : (n : ℕ) (p : Part Fixup) (x : Section Fixup) → x.absolute ≡ None → longer n p x ≡ record x { size = x.size + n; parts = x.parts ++ p ∷ [] }
-longer_relative n p x is = ap (λ (o : Option ℕ). longer_by o n p x) is
+-- one that doesn't only count has the bytes
+pub longer_held : (n : ℕ) (p : Part Fixup) (x : Section Fixup) → x.counter ≡ None → longer n p x ≡ record x { size = x.size + n; parts = x.parts ++ p ∷ [] }
+longer_held n p x is = ap (λ (o : Option ℕ). longer_by o n p x) is

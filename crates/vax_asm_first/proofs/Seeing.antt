@@ -2,12 +2,12 @@
 use Rattle.std.proofs.Common.{◌≡◌, ◌<◌, ◌+◌, ℕ, Bool, true, false, List, [], ◌∷◌, length, map, Result, Ok, Err, refl, sym, ap, subst, ◌∙◌}
 use Rattle.std.proofs.lemmas.List.{get_or-map, map-append, map-set, length-set, length-map}
 use Rattle.std.specs.Prelude.{Option, Some, None, if◌then◌else◌, slice_set, ◌^◌}
-use Rattle.vax_asm_sections.specs.Layout.{Part, Zeros, Bytes, Field, Section, Sections, unnamed, current_of, longer, longer_by, exceeds, place_in, refuses, with_part, put, gap, raised, with_raised, raise, aligned}
+use Rattle.vax_asm_sections.specs.Layout.{Part, Zeros, Bytes, Field, Section, Sections, unnamed, current_of, longer, longer_by, is_absolute, only_counts, exceeds, place_in, refuses, with_part, put, gap, raised, with_raised, raise, aligned}
 use Rattle.vax_asm_sections.specs.declared.types.Refusal.{Refusal}
 use Rattle.vax_asm_sections.specs.declared.types.Refusal.TheVariants.{Absolute, TooLong}
 use Rattle.vax_asm_sections.specs.View.{section_of, sections_of}
 use Rattle.vax_asm_sections.specs.declared.types.Layout.{Layout}
-use Rattle.vax_asm_first.specs.Standing.{Standing, fault_of, with_sections}
+use Rattle.vax_asm_first.specs.Standing.{Standing, fault_of, here_by, here_in, with_sections}
 use Rattle.vax_asm_first.specs.View.{part_seen, section_seen, sections_seen, sections_in}
 use Rattle.vax_asm_first.specs.Fixups as specs
 use Rattle.vax_asm_first.specs.declared.types.Fixup.{Fixup}
@@ -22,10 +22,10 @@ current_seen s h = get_or-map section_seen s.all s.current unnamed unnamed h
 longer_seen_by : (n : ℕ) (part : Part Fixup) (s : Section Fixup) (o : Option ℕ) → section_seen (longer_by o n part s) ≡ longer_by o n (part_seen part) (section_seen s)
 longer_seen_by n part s (Some at) = refl
 longer_seen_by n part s None =
-    ap (λ (l : List (Part specs.Fixup)). record { name = s.name; declared = s.declared; write = s.write; align = s.align; size = s.size + n; parts = l; absolute = s.absolute }) (map-append part_seen s.parts (part ∷ []))
+    ap (λ (l : List (Part specs.Fixup)). record { name = s.name; declared = s.declared; write = s.write; align = s.align; size = s.size + n; parts = l; counter = s.counter; overlaid = s.overlaid }) (map-append part_seen s.parts (part ∷ []))
 
 longer_seen : (n : ℕ) (part : Part Fixup) (s : Section Fixup) → section_seen (longer n part s) ≡ longer n (part_seen part) (section_seen s)
-longer_seen n part s = longer_seen_by n part s s.absolute
+longer_seen n part s = longer_seen_by n part s s.counter
 
 part_added : (n : ℕ) (part : Part Fixup) (s : Sections Fixup) → s.current < length s.all → sections_seen (with_part n part s) ≡ with_part n (part_seen part) (sections_seen s)
 part_added n part s h =
@@ -98,14 +98,24 @@ within l = rw (length-map l.sections.items section_of) l.in_range
 pub size_seen : (l : Layout Fixup) → (current_of (sections_in l)).size ≡ (current_of (sections_of l)).size
 size_seen l = ap (λ (x : Section specs.Fixup). x.size) (current_seen (sections_of l) (within l))
 
-pub absolute_seen : (l : Layout Fixup) → (current_of (sections_in l)).absolute ≡ (current_of (sections_of l)).absolute
-absolute_seen l = ap (λ (x : Section specs.Fixup). x.absolute) (current_seen (sections_of l) (within l))
+pub counting_seen : (l : Layout Fixup) → only_counts (current_of (sections_in l)) ≡ only_counts (current_of (sections_of l))
+counting_seen l = ap (λ (x : Section specs.Fixup). only_counts x) (current_seen (sections_of l) (within l))
+
+pub absolute_seen : (l : Layout Fixup) → is_absolute (current_of (sections_in l)) ≡ is_absolute (current_of (sections_of l))
+absolute_seen l = ap (λ (x : Section specs.Fixup). is_absolute x) (current_seen (sections_of l) (within l))
 
 pub place_seen : (l : Layout Fixup) → place_in (current_of (sections_in l)) ≡ place_in (current_of (sections_of l))
 place_seen l = ap (λ (x : Section specs.Fixup). place_in x) (current_seen (sections_of l) (within l))
 
 pub name_seen : (l : Layout Fixup) → (current_of (sections_in l)).name ≡ (current_of (sections_of l)).name
 name_seen l = ap (λ (x : Section specs.Fixup). x.name) (current_seen (sections_of l) (within l))
+
+here_either : (a b : Bool) (section at place : ℕ) → a ≡ b → at ≡ place → here_by b section place ≡ here_by a section at
+here_either a b section at place is same = rw (is, same) refl
+
+pub here_seen : (l : Layout Fixup) → here_in (sections_in l) ≡ here_in (sections_of l)
+here_seen l =
+    here_either (is_absolute (current_of (sections_of l))) (is_absolute (current_of (sections_in l))) (sections_of l).current (place_in (current_of (sections_of l))) (place_in (current_of (sections_in l))) (sym (absolute_seen l)) (sym (place_seen l))
 
 -- what stands with these sections
 abbrev with : Standing → Sections specs.Fixup → Standing

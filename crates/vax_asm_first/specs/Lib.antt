@@ -4,5 +4,6 @@ pub mod Faults
 pub mod Fixups
 pub mod Progress
 pub mod Standing
+pub mod Telling
 pub mod View
 pub use Rattle.vax_isa.specs.declared.actions.Narrow

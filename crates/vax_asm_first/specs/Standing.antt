@@ -1,7 +1,7 @@
 -- What the statements so far leave, and what an expression is where it stands (VAX MACRO and Instruction Set Reference
 -- Manual, "Terms and expressions" and "Location counter").
 use Rattle.std.specs.Prelude.{ℕ, pos, Bool, true, false, ◌-◌, ◌&&◌, nat_lt, not, if◌then◌else◌, List, [], ◌∷◌, ◌++◌, length, take, Option, Some, None, Result, Ok, Err}
-use Rattle.vax_asm_sections.specs.Layout.{Sections, current_of, at_first}
+use Rattle.vax_asm_sections.specs.Layout.{Sections, current_of, is_absolute, place_in, at_first}
 use Rattle.vax_asm_sections.specs.declared.types.Refusal.{Refusal}
 use Rattle.vax_asm_sections.specs.declared.types.Refusal.TheVariants.{Absolute as Refused_data, Conflict, NoMemory, TooLong}
 use Rattle.vax_dialect.specs.Differences.{has_places_in_operands}
@@ -43,12 +43,12 @@ abbrev pub at_start : Dialect → Standing
 at_start dialect = record { dialect = dialect; scope = nothing; keeps_block = false; absolute = false; displacement = narrow.L; sections = at_first; saved = []; transfer = None }
 
 -- where the next statement stands: in an absolute section a number, else a place of the section
-abbrev pub here_by : Option ℕ → (section size : ℕ) → Value
-here_by (Some at) section size = value.Absolute (pos at)
-here_by None section size = value.Section section (pos size)
+abbrev pub here_by : (absolute : Bool) → (section at : ℕ) → Value
+here_by true section at = value.Absolute (pos at)
+here_by false section at = value.Section section (pos at)
 
 abbrev pub here_in : {F : Type 0} → Sections F → Value
-here_in s = here_by (current_of s).absolute s.current (current_of s).size
+here_in s = here_by (is_absolute (current_of s)) s.current (place_in (current_of s))
 
 -- What `.` is worth in an operand or an item: the place of that, where it may stand there, else the place of the statement.
 abbrev pub here_at : Dialect → (statement part : Value) → Value
@@ -118,7 +118,7 @@ fault_of Conflict = fault.Large
 fault_of TooLong = fault.Large
 fault_of NoMemory = fault.Large
 
--- the sections after a change; data in an absolute section is a fault, and so is a section or a module that would be too long
+-- the sections after a change; data in a section that only counts is a fault, and so is a section or a module that would be too long
 abbrev pub with_sections : Standing → Result (Sections Fixup) Refusal → Result Standing FaultKind
 with_sections s (Ok sections) = Ok (record s { sections = sections })
 with_sections s (Err refusal) = Err (fault_of refusal)

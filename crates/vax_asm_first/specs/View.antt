@@ -35,7 +35,7 @@ part_seen (Bytes bytes) = Bytes bytes
 part_seen (Field f) = Field (fixup_of f)
 
 abbrev pub section_seen : Section Fixup → Section specs.Fixup
-section_seen s = record { name = s.name; declared = s.declared; write = s.write; align = s.align; size = s.size; parts = map part_seen s.parts; absolute = s.absolute }
+section_seen s = record { name = s.name; declared = s.declared; write = s.write; align = s.align; size = s.size; parts = map part_seen s.parts; counter = s.counter; overlaid = s.overlaid }
 
 abbrev pub sections_seen : Sections Fixup → Sections specs.Fixup
 sections_seen s = record { all = map section_seen s.all; current = s.current; total = s.total }

@@ -9,6 +9,7 @@ mod circles;
 mod faults;
 mod site;
 mod standing;
+mod telling;
 mod types;
 
 pub use circles::first_circle;

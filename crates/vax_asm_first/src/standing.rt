@@ -1,7 +1,7 @@
 // What the statements so far leave.
 
-ghost use Rattle.std.specs.Prelude.{◌≡◌, ◌≤◌, All, IfOk, OnOk, is_some, length, option_map};
-ghost use Rattle.vax_asm_sections.specs.Layout.{current_of, place_in, put, aligned};
+ghost use Rattle.std.specs.Prelude.{◌≡◌, ◌≤◌, All, IfOk, OnOk, length, option_map};
+ghost use Rattle.vax_asm_sections.specs.Layout.{current_of, is_absolute, only_counts, place_in, put, aligned};
 ghost use Rattle.vax_asm_sections.specs.View.{part_of};
 ghost use Rattle.vax_lex.specs.Grammar.{symbols_of};
 ghost use Rattle.vax_lex.specs.Tokens.{IsTokenOf};
@@ -28,7 +28,7 @@ use vax_space::NoMemory;
 const MOST_SAVED: usize = 31;
 
 /// What is settled of an expression's value, whatever comes later.
-fn settled(
+pub(crate) fn settled(
     scope: &Scope,
     expression: &Expression,
     value: Result<Value, ExprError>,
@@ -72,7 +72,7 @@ impl Standing {
         self.layout.current().size
     }
 
-    /// Where the next statement goes in that section, which counts alone where it is absolute.
+    /// Where the next statement goes in that section, which may only count.
     #[tactic(auto, using(crate::proofs::Seeing::place_seen))]
     pub fn place(&self) -> u32
         ensures value { result ≡ place_in (current_of (standing_of self.now).sections) }
@@ -81,12 +81,20 @@ impl Standing {
         self.layout.current().place()
     }
 
+    /// Whether that section only counts, as an absolute or an overlaid one does.
+    #[tactic(auto, using(crate::proofs::Seeing::counting_seen))]
+    pub fn only_counts(&self) -> bool
+        ensures { result ≡ only_counts (current_of (standing_of self.now).sections) }
+    {
+        self.layout.current().only_counts()
+    }
+
     /// Whether that section is absolute.
     #[tactic(auto, using(crate::proofs::Seeing::absolute_seen))]
     pub fn in_absolute(&self) -> bool
-        ensures { result ≡ is_some (current_of (standing_of self.now).sections).absolute }
+        ensures { result ≡ is_absolute (current_of (standing_of self.now).sections) }
     {
-        self.layout.current().absolute.is_some()
+        self.layout.current().is_absolute()
     }
 
     /// The name of that section; empty for the one that has none.
@@ -139,17 +147,18 @@ impl Standing {
     }
 
     /// Where the next statement stands, which is what `.` is worth in it: a number in an absolute section.
-    #[tactic(auto, using(crate::proofs::Seeing::absolute_seen))]
+    #[tactic(auto, using(crate::proofs::Seeing::here_seen))]
     pub fn here(&self) -> Result<Value, NoMemory>
         ensures { IfOk result (λ v. v ≡ here_in (standing_of self.now).sections) }
     {
         let section = u32::try_from(self.layout.number()).map_err(|_| NoMemory)?;
-        if let Some(at) = self.layout.current().absolute {
+        let at = self.layout.current().place();
+        if self.layout.current().is_absolute() {
             return Ok(Value::Absolute(i64::from(at)));
         }
         Ok(Value::Section {
             section,
-            offset: i64::from(self.section_size()),
+            offset: i64::from(at),
         })
     }
 
@@ -183,7 +192,7 @@ impl Standing {
 
     /// Adds so many bytes to the section that the next statement goes into.
     ///
-    /// [`Refused::Fault`] where an absolute section would hold data, or the section or the module would be too long, and all is as before then;
+    /// [`Refused::Fault`] where an absolute or overlaid section would hold data, or the section or the module would be too long, and all is as before then;
     /// [`Refused::NoMemory`] where memory is refused.
     #[tactic(auto, using(crate::proofs::Seeing::put_stands, crate::proofs::Seeing::put_fails))]
     pub fn put(&mut self, size: u32, piece: Piece<Fixup>) -> Result<(), Refused>

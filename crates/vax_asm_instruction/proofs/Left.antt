@@ -18,7 +18,7 @@ use Rattle.vax_macro.specs.declared.error.FaultKind.{FaultKind}
 use Rattle.vax_asm_first.specs.Faults.{lowest}
 use Rattle.vax_asm_first.specs.Fixups.{Filling, Fixup}
 use Rattle.vax_asm_first.specs.Progress.{Site, Progress, done, done_by, site_of}
-use Rattle.vax_asm_first.proofs.Putting.{longer_relative, put_made, put_relative}
+use Rattle.vax_asm_first.proofs.Putting.{longer_held, put_made, put_held}
 use Rattle.vax_asm_first.specs.Standing.{Standing, with_scope}
 use Rattle.vax_asm_first.specs.View.{section_seen, standing_of}
 use Rattle.vax_asm_first.specs.declared.types.Origin.{Origin}
@@ -57,9 +57,9 @@ fixed_made : (site : Site) (kind : OperandKind) (o : Operand) (filling : Filling
 fixed_made site kind o filling at s None h = ap (λ (t : Standing). t.sections) (put_made (operand_length kind o) (Kept (fixup_at site kind o filling at)) s h)
 fixed_made site kind o filling at s (Some k) h = cc
 
-fixed_relative : (site : Site) (kind : OperandKind) (o : Operand) (filling : Filling) (at : ℕ) (s : Standing) (f : Option FaultKind) → (fixed site kind o filling at s f).fault ≡ None → (current_of s.sections).absolute ≡ None
-fixed_relative site kind o filling at s None h = put_relative (operand_length kind o) (Kept (fixup_at site kind o filling at)) s tt h
-fixed_relative site kind o filling at s (Some k) h = absurd cc
+fixed_held : (site : Site) (kind : OperandKind) (o : Operand) (filling : Filling) (at : ℕ) (s : Standing) (f : Option FaultKind) → (fixed site kind o filling at s f).fault ≡ None → (current_of s.sections).counter ≡ None
+fixed_held site kind o filling at s None h = put_held (operand_length kind o) (Kept (fixup_at site kind o filling at)) s tt h
+fixed_held site kind o filling at s (Some k) h = absurd cc
 
 -- One operand.
 record Step (site : Site) (kind : OperandKind) (at : ℕ) (s : Standing) (r : Reached) : Type 0 where
@@ -68,7 +68,7 @@ record Step (site : Site) (kind : OperandKind) (at : ℕ) (s : Standing) (r : Re
   stands : may_stand kind operand ≡ true
   next : r.at ≡ at + operand_length kind operand
   sections : r.progress.standing.sections ≡ with_part (operand_length kind operand) (Kept (fixup_at site kind operand filling at)) s.sections
-  relative : (current_of s.sections).absolute ≡ None
+  has_bytes : (current_of s.sections).counter ≡ None
 
 placed_step : (site : Site) (kind : OperandKind) (p : Prepared) (at : ℕ) (s : Standing) (o : Option Operand) → StandsIn kind o → (placed site kind p at s o).progress.fault ≡ None → Step site kind at s (placed site kind p at s o)
 placed_step site kind p at s None stands h = absurd cc
@@ -78,7 +78,7 @@ placed_step site kind p at s (Some o) stands h = record {
   stands = stands;
   next = refl;
   sections = fixed_made site kind o p.filling at s (fault_at kind o s.sections.current at p.addressed) h;
-  relative = fixed_relative site kind o p.filling at s (fault_at kind o s.sections.current at p.addressed) h;
+  has_bytes = fixed_held site kind o p.filling at s (fault_at kind o s.sections.current at p.addressed) h;
 }
 
 step : (site : Site) (kind : OperandKind) (tokens : List Token) (at : ℕ) (s : Standing) → (operand_stated site kind tokens at s).progress.fault ≡ None → Step site kind at s (operand_stated site kind tokens at s)
@@ -90,7 +90,7 @@ step site kind tokens at s h =
       stands = made.stands;
       next = made.next;
       sections = made.sections;
-      relative = made.relative;
+      has_bytes = made.has_bytes;
     }
 
 -- Where all have no fault, each has none.
@@ -189,7 +189,7 @@ grown site (o ∷ os) (kind ∷ kinds) r are within h =
     let more = grown site os kinds next are.1 inside h in
     let x : Section Fixup = current_of s.sections in
     let section : current_of next.progress.standing.sections ≡ record x { size = x.size + n; parts = x.parts ++ part ∷ [] } =
-    ap current_of p.sections ∙ current_longer n part s.sections within ∙ longer_relative n part x p.relative in
+    ap current_of p.sections ∙ current_longer n part s.sections within ∙ longer_held n part x p.has_bytes in
     record {
       operands = part ∷ more.operands;
       current = more.current ∙ ap (λ (x : Sections Fixup). x.current) p.sections;
@@ -227,7 +227,7 @@ left_by row site os s formed count within h =
     let are : AreKinds os row.operands = kinds_of os row.operands (omega (arith, formed.count, formed.places, count)) (λ k d less. formed.kinds k d (omega arith)) in
     let more = grown site os row.operands r are inside h in
     let section : current_of r.progress.standing.sections ≡ record x { size = x.size + 1; parts = x.parts ++ opcode ∷ [] } =
-    ap current_of made ∙ current_longer 1 opcode s.sections within ∙ longer_relative 1 opcode x (put_relative 1 opcode s tt stood) in
+    ap current_of made ∙ current_longer 1 opcode s.sections within ∙ longer_held 1 opcode x (put_held 1 opcode s tt stood) in
     let size : (current_of r.progress.standing.sections).size ≡ (current_of s.sections).size + 1 = ap (λ (x : Section Fixup). x.size) section in
     let kinds : front os row.operands ≡ take row.count row.operands = front_taken os row.operands ∙ ap (λ (n : ℕ). take n row.operands) count in
     record {

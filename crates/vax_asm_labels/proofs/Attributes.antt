@@ -11,12 +11,12 @@ use Rattle.vax_lex.specs.declared.token.Token.{Token}
 use Rattle.vax_lex.specs.declared.token.TokenKind.{TokenKind}
 use Rattle.vax_lex.specs.declared.token.TokenKind.TheVariants as kinds
 use Rattle.vax_asm_labels.proofs.Spelled.{is_ascii, spelled_is_utf8}
-use Rattle.vax_asm_labels.specs.Naming.{attribute_at, attribute_by, attributes_from, either_attribute, further_attribute, further_word, power_alone, power_of_two, nothing_said, same, with_absolute, with_align, with_attribute, with_write}
+use Rattle.vax_asm_labels.specs.Naming.{attribute_at, attribute_by, attributes_from, either_attribute, further_attribute, further_word, power_alone, power_of_two, nothing_said, same, says_nothing, word_named, with_absolute, with_align, with_attribute, with_overlaid, with_write}
 use Rattle.vax_asm_labels.specs.Within.{Within}
 use Rattle.vax_asm_statement.specs.Directives.{attribute_of, attributes, named_in}
 use Rattle.vax_asm_statement.specs.Items.{name_alone}
 use Rattle.vax_asm_statement.specs.declared.directives.Attribute.{Attribute}
-use Rattle.vax_asm_statement.specs.declared.directives.Attribute.TheVariants.{Absolute, Align, Write, Ignored}
+use Rattle.vax_asm_statement.specs.declared.directives.Attribute.TheVariants.{Absolute, Align, Write, Overlaid, Ignored}
 
 both : (a b : Bool) → (a && b) ≡ true → (a ≡ true) × (b ≡ true)
 both true true h = (refl, refl)
@@ -49,6 +49,7 @@ abbrev Small : Option Attribute → Type 0
 Small (Some (Align k)) = k ≤ 9
 Small (Some (Write w)) = Unit {0}
 Small (Some (Absolute b)) = Unit {0}
+Small (Some (Overlaid b)) = Unit {0}
 Small (Some Ignored) = Unit {0}
 Small None = Unit {0}
 
@@ -56,6 +57,7 @@ abbrev is_small : Attribute → Bool
 is_small (Align k) = nat_le k 9
 is_small (Write w) = true
 is_small (Absolute b) = true
+is_small (Overlaid b) = true
 is_small Ignored = true
 
 abbrev are_small : List (List ℕ × Attribute) → Bool
@@ -66,6 +68,7 @@ small : (a : Attribute) → is_small a ≡ true → Small (Some a)
 small (Align k) h = leb-true k 9 h
 small (Write w) h = tt
 small (Absolute b) h = tt
+small (Overlaid b) h = tt
 small Ignored h = tt
 
 either_small : (b : Bool) (x : Attribute) (rest : Option Attribute) → Small (Some x) → Small rest → Small (if b then Some x else rest)
@@ -98,14 +101,20 @@ absolute_within : (b : Bool) (a : Attributes) (o : Option Bool) → Within a →
 absolute_within b a None h = h
 absolute_within b a (Some before) h = elim (same b before) as (λ c. IfSome (if c then Some a else None) Within) [ true ↦ h | false ↦ tt ]
 
+overlaid_within : (b : Bool) (a : Attributes) (o : Option Bool) → Within a → IfSome (with_overlaid b a o) Within
+overlaid_within b a None h = h
+overlaid_within b a (Some before) h = elim (same b before) as (λ c. IfSome (if c then Some a else None) Within) [ true ↦ h | false ↦ tt ]
+
 attribute_within : (x : Option Attribute) (o : Option Attributes) → Small x → IfSome o Within → IfSome (with_attribute x o) Within
 attribute_within (Some (Align k)) (Some a) s h = align_within k a a.align s h
 attribute_within (Some (Write w)) (Some a) s h = write_within w a a.write h
 attribute_within (Some (Absolute b)) (Some a) s h = absolute_within b a a.absolute h
+attribute_within (Some (Overlaid b)) (Some a) s h = overlaid_within b a a.overlaid h
 attribute_within (Some Ignored) (Some a) s h = h
 attribute_within (Some (Align k)) None s h = tt
 attribute_within (Some (Write w)) None s h = tt
 attribute_within (Some (Absolute b)) None s h = tt
+attribute_within (Some (Overlaid b)) None s h = tt
 attribute_within (Some Ignored) None s h = tt
 attribute_within None o s h = tt
 
@@ -124,11 +133,15 @@ small_alone [] = tt
 small_alone (t ∷ []) = small_power t.kind
 small_alone (t ∷ u ∷ tokens) = tt
 
+small_named : (name : List ℕ) → Small (word_named name)
+small_named name =
+    let nothing : Option Attribute = if says_nothing name then Some Ignored else None in
+    let overlaid : Option Attribute = if spells (codes "OVR") name then Some (Overlaid true) else nothing in
+    either_small (spells (codes "ABS") name) (Absolute true) overlaid tt
+    (either_small (spells (codes "OVR") name) (Overlaid true) nothing tt (either_small (says_nothing name) Ignored None tt tt))
+
 small_word : (line : List ℕ) (o : Option Token) → Small (further_word line o)
-small_word line (Some t) =
-    either_small (spells (codes "ABS") (token_text line t)) (Absolute true)
-    (if spells (codes "NORD") (token_text line t) || spells (codes "VEC") (token_text line t) then Some Ignored else None) tt
-    (either_small (spells (codes "NORD") (token_text line t) || spells (codes "VEC") (token_text line t)) Ignored None tt tt)
+small_word line (Some t) = small_named (token_text line t)
 small_word line None = tt
 
 small_either : (x y : Option Attribute) → Small x → Small y → Small (either_attribute x y)

@@ -1,6 +1,7 @@
 pub mod Alone
 pub mod Attributes
 pub mod Ending
+pub mod Keys
 pub mod Listing
 pub mod Parts
 pub mod Replacing

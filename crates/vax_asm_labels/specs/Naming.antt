@@ -1,10 +1,10 @@
 -- The statements that define names, choose sections and say where a program begins (VAX MACRO and Instruction Set Reference
 -- Manual, "Label field", "Direct assignment statement", `.PSECT`, `.ENTRY`, `.GLOBAL`, `.EXTERNAL` and `.END`).
-use Rattle.std.specs.Prelude.{ℕ, ℤ, pos, negsuc, Bool, true, false, ◌&&◌, ◌||◌, ◌==◌, nat_le, not, if◌then◌else◌, List, [], ◌∷◌, ◌++◌, Option, Some, None, Result, Ok, Err, codes, is_some}
+use Rattle.std.specs.Prelude.{ℕ, ℤ, pos, negsuc, Bool, true, false, ◌&&◌, ◌||◌, ◌==◌, nat_le, not, if◌then◌else◌, List, [], ◌∷◌, ◌++◌, Option, Some, None, Result, Ok, Err, codes}
 use Rattle.std.specs.Str.{bytes_eq}
 use Rattle.vax_asm_encode.specs.declared.operand.DataKind.TheVariants.{Number}
 use Rattle.vax_asm_data.specs.Data.{forward, item_stated, unless_none}
-use Rattle.vax_asm_sections.specs.Layout.{Sections, current_of, selected}
+use Rattle.vax_asm_sections.specs.Layout.{Sections, current_of, is_absolute, selected}
 use Rattle.vax_asm_sections.specs.declared.types.Attributes.{Attributes}
 use Rattle.vax_asm_sections.specs.declared.types.Refusal.{Refusal}
 use Rattle.vax_dialect.specs.Differences.{assigns_places, has_further_directives, has_unnamed_psect}
@@ -28,12 +28,13 @@ use Rattle.vax_asm_first.specs.Fixups.{Assignment, Fixup}
 use Rattle.vax_asm_first.specs.Progress.{Site, site_of, Progress, after_change, joined, done}
 use Rattle.vax_asm_first.specs.Standing.{Standing, Told, told, here_in, with_scope}
 use Rattle.vax_asm_first.specs.declared.types.Origin.{Origin}
+use Rattle.vax_asm_scope.specs.Masks.{mask_labelled}
 use Rattle.vax_asm_scope.specs.Scope.{Scope, Entry, entry, definition_at, definition_of, is_local, labelled, labelled_locally, assigned, begun_block, linked, misses}
 use Rattle.vax_asm_statement.specs.Directives.{attribute_of}
 use Rattle.vax_asm_statement.specs.Items.{name_alone, whole}
 use Rattle.vax_asm_statement.specs.Parts.{parts}
 use Rattle.vax_asm_statement.specs.declared.directives.Attribute.{Attribute}
-use Rattle.vax_asm_statement.specs.declared.directives.Attribute.TheVariants.{Absolute, Align, Write, Ignored}
+use Rattle.vax_asm_statement.specs.declared.directives.Attribute.TheVariants.{Absolute, Align, Write, Overlaid, Ignored}
 use Rattle.vax_asm_statement.specs.declared.reading.Label.{Label}
 use Rattle.vax_asm_values.specs.Values.{Written}
 use Rattle.vax_word.specs.declared.Size.TheVariants as size
@@ -155,7 +156,7 @@ moved_to (Err kind) s = Err kind
 abbrev pub place_moved : Site → List Token → Standing → Result Standing FaultKind
 place_moved site tokens s =
     let t = told site.dialect site.here (symbols_of site.line tokens) s.scope in
-    moved_to (target (is_some (current_of s.sections).absolute) s.sections.current t.value) (with_scope t.scope s)
+    moved_to (target (is_absolute (current_of s.sections)) s.sections.current t.value) (with_scope t.scope s)
 
 -- `. = e`, where the dialect has that
 abbrev pub place_assigned : Bool → Site → List Token → Standing → Result Standing FaultKind
@@ -196,10 +197,15 @@ abbrev pub with_absolute : Bool → Attributes → Option Bool → Option Attrib
 with_absolute b a (Some before) = if same b before then Some a else None
 with_absolute b a None = Some (record a { absolute = Some b })
 
+abbrev pub with_overlaid : Bool → Attributes → Option Bool → Option Attributes
+with_overlaid b a (Some before) = if same b before then Some a else None
+with_overlaid b a None = Some (record a { overlaid = Some b })
+
 abbrev pub with_attribute : Option Attribute → Option Attributes → Option Attributes
 with_attribute (Some (Align k)) (Some a) = with_align k a a.align
 with_attribute (Some (Write w)) (Some a) = with_write w a a.write
 with_attribute (Some (Absolute b)) (Some a) = with_absolute b a a.absolute
+with_attribute (Some (Overlaid b)) (Some a) = with_overlaid b a a.overlaid
 with_attribute (Some Ignored) (Some a) = Some a
 with_attribute (Some x) None = None
 with_attribute None found = None
@@ -208,8 +214,8 @@ abbrev pub attribute_by : List ℕ → Option Token → Option Attribute
 attribute_by line (Some t) = attribute_of (token_text line t)
 attribute_by line None = None
 
--- Attributes where the dialect has further directives: a power of two from 0 to 9, what says that a section is absolute, and what says that it isn't read, or is
--- one of vectors.
+-- Attributes where the dialect has further directives: a power of two from 0 to 9, what says that a section is absolute or overlaid, and what says that it isn't
+-- read, is one of vectors, or may be mixed with others, which means nothing here.
 abbrev pub power_of_two : TokenKind → Option Attribute
 power_of_two (kinds.Number n) = if nat_le n 9 then Some (Align n) else None
 power_of_two kinds.Name = None
@@ -220,10 +226,17 @@ abbrev pub power_alone : List Token → Option Attribute
 power_alone (t ∷ []) = power_of_two t.kind
 power_alone tokens = None
 
+abbrev pub says_nothing : List ℕ → Bool
+says_nothing name = spells (codes "NORD") name || (spells (codes "VEC") name || (spells (codes "MIX") name || spells (codes "NOMIX") name))
+
+abbrev pub word_named : List ℕ → Option Attribute
+word_named name =
+    if spells (codes "ABS") name then Some (Absolute true)
+    else (if spells (codes "OVR") name then Some (Overlaid true)
+    else (if says_nothing name then Some Ignored else None))
+
 abbrev pub further_word : List ℕ → Option Token → Option Attribute
-further_word line (Some t) =
-    if spells (codes "ABS") (token_text line t) then Some (Absolute true)
-    else (if spells (codes "NORD") (token_text line t) || spells (codes "VEC") (token_text line t) then Some Ignored else None)
+further_word line (Some t) = word_named (token_text line t)
 further_word line None = None
 
 abbrev pub either_attribute : Option Attribute → Option Attribute → Option Attribute
@@ -243,7 +256,7 @@ attributes_from dialect line [] found = found
 attributes_from dialect line (part ∷ parts) found = attributes_from dialect line parts (with_attribute (attribute_at dialect line part) found)
 
 abbrev pub nothing_said : Attributes
-nothing_said = record { align = None; write = None; absolute = None }
+nothing_said = record { align = None; write = None; absolute = None; overlaid = None }
 
 -- a section is chosen; a block of local labels begins
 abbrev pub chosen : Standing → Result (Sections Fixup) Refusal → Result Standing FaultKind
@@ -268,12 +281,34 @@ section_by line (name ∷ attributes) s = section_chosen (name_of line name) (at
 unfoldable pub section_stated : List ℕ → List Token → Standing → Result Standing FaultKind
 section_stated line tokens s = section_by line (parts tokens) s
 
+-- The mask of an entry is kept for `.MASK`, if it is a number that is known where it stands.
+abbrev pub mask_kept : List ℕ → Result Value ExprError → Standing → Result Standing FaultKind
+mask_kept name (Ok (value.Absolute n)) s = defined s (mask_labelled name (value.Absolute n) s.scope)
+mask_kept name (Ok (value.Section i n)) s = Ok s
+mask_kept name (Ok (value.External i n)) s = Ok s
+mask_kept name (Err e) s = Ok s
+
+abbrev pub mask_noted : Site → List ℕ → List Token → Standing → Result Standing FaultKind
+mask_noted site name mask s =
+    let t = told site.dialect site.here (symbols_of site.line mask) s.scope in
+    mask_kept name t.value (with_scope t.scope s)
+
+abbrev pub noted_unless : Option FaultKind → Site → List ℕ → List Token → Standing → Result Standing FaultKind
+noted_unless (Some kind) site name mask s = Err kind
+noted_unless None site name mask s = mask_noted site name mask s
+
+-- where the dialect has that
+abbrev pub noted_where : Bool → Site → List ℕ → List Token → Progress → Result Standing FaultKind
+noted_where true site name mask p = noted_unless p.fault site name mask p.standing
+noted_where false site name mask p = done p
+
 -- `.ENTRY`: a label for other modules, and a word that holds the mask
-abbrev pub entry_by : Site → List Token → Progress → Result Standing FaultKind
-entry_by site mask p = done (joined p.fault (item_stated (Number size.W) site (whole mask) p.standing))
+abbrev pub entry_by : Site → List ℕ → List Token → Progress → Result Standing FaultKind
+entry_by site name mask p =
+    noted_where (has_further_directives site.dialect) site name mask (joined p.fault (item_stated (Number size.W) site (whole mask) p.standing))
 
 abbrev pub entry_named : Site → Option (List ℕ) → List Token → Standing → Result Standing FaultKind
-entry_named site (Some name) mask s = entry_by site mask (after_change s (symbol_stated true name s))
+entry_named site (Some name) mask s = entry_by site name mask (after_change s (symbol_stated true name s))
 entry_named site None mask s = Err fault.Form
 
 abbrev pub two_alone : List (List Token) → (List Token → List Token → Result Standing FaultKind) → Result Standing FaultKind

@@ -3,7 +3,7 @@
 ghost use Rattle.std.specs.Prelude.{◌≡◌, ◌<◌, ◌^◌, All, IfOk, None, Some, if◌then◌else◌, length, option_map, true};
 ghost use Rattle.vax_lex.specs.KeptNames.{kept_name};
 ghost use Rattle.vax_lex.specs.Tokens.{IsTokenOf};
-ghost use Rattle.vax_asm_labels.specs.Naming.{begins_at, end_stated, entry_named, entry_stated, names_from, names_stated, symbol_stated};
+ghost use Rattle.vax_asm_labels.specs.Naming.{begins_at, end_stated, entry_named, entry_stated, mask_kept, mask_noted, names_from, names_stated, symbol_stated};
 ghost use Rattle.vax_asm_first.specs.Progress.{after_change, done_by};
 ghost use Rattle.vax_asm_first.specs.View.{progress_of, site_seen, standing_of, States};
 ghost use Rattle.vax_asm_scope.specs.Kept.{scope_of};
@@ -16,9 +16,9 @@ use std::rc::Rc;
 use vax_asm_data::item;
 use vax_asm_encode::DataKind;
 use vax_asm_first::{FaultKind, Origin, Refused, Site, Standing, Transfer, lowest, site_of};
-use vax_asm_scope::{Linkage, Scope};
+use vax_asm_scope::{LabelError, Linkage, Scope};
 use vax_asm_statement::parts;
-use vax_lex::{CanonicalName, Token};
+use vax_lex::{CanonicalName, ExprError, Token, Value};
 use vax_space::NoMemory;
 use vax_word::Size;
 
@@ -38,6 +38,45 @@ fn state_label(
     }
 }
 
+/// The mask of an entry is kept, if it is a number that is known.
+fn keep_mask(
+    standing: &mut Standing,
+    alloc: Global,
+    name: &[u8],
+    mask: Result<Value, ExprError>,
+) -> Result<Option<FaultKind>, NoMemory>
+    ensures { IfOk result (λ f. done_by f (standing_of standing.new)
+        ≡ mask_kept name.now mask (standing_of standing.old)) }
+{
+    let Ok(Value::Absolute(number)) = mask else {
+        return Ok(None);
+    };
+    match standing
+        .scope
+        .label_mask(alloc, name, Value::Absolute(number))
+    {
+        Ok(()) => Ok(None),
+        Err(LabelError::Duplicate) => Ok(Some(FaultKind::Duplicate)),
+        Err(LabelError::NoMemory) => Err(NoMemory),
+    }
+}
+
+/// The mask of an entry is kept for `.MASK`. Its fault, if it has one.
+fn note_mask(
+    standing: &mut Standing,
+    alloc: Global,
+    site: Site<'_>,
+    name: &[u8],
+    mask: &[Token],
+) -> Result<Option<FaultKind>, NoMemory>
+    requires { All (IsTokenOf site.line.now.value.items) mask.now }
+    ensures { IfOk result (λ f. done_by f (standing_of standing.new)
+        ≡ mask_noted (site_seen site.entry) name.now mask.now (standing_of standing.old)) }
+{
+    let told = standing.tell(alloc, site.dialect, site.line, mask, site.here)?;
+    keep_mask(standing, alloc, name, told.value)
+}
+
 /// The label of an entry and its mask. Their fault, if they have one.
 fn state_entry(
     standing: &mut Standing,
@@ -52,7 +91,11 @@ fn state_entry(
 {
     let fault = state_label(standing, alloc, name)?;
     let found = item(standing, alloc, site, DataKind::Number(Size::W), mask)?;
-    Ok(lowest(fault, found))
+    let fault = lowest(fault, found);
+    if fault.is_some() || !site.dialect.has_further_directives() {
+        return Ok(fault);
+    }
+    note_mask(standing, alloc, site, name, mask)
 }
 
 /// An entry with this name, if it is one.
@@ -77,7 +120,7 @@ fn enter(
     }
 }
 
-/// `.ENTRY name,mask`: a label for other modules, and a word that holds the mask.
+/// `.ENTRY name,mask`: a label for other modules, and a word that holds the mask. Where the dialect has `.MASK`, the mask is kept for that.
 ///
 /// [`Refused::Fault`] with the fault that counts: `Count` where there aren't two operands, `Form` where the first is no name
 /// or the mask is no absolute expression or uses `.`, `Duplicate` where the name is defined already, `Range` where the mask

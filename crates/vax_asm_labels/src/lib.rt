@@ -2,7 +2,7 @@
 //! Reference Manual, "VAX MACRO source statement format" and "VAX MACRO assembler directives").
 //!
 //! Each call carries out one statement where it stands: [`label`] `name:`, [`assignment`] `name = e`, [`section`] `.PSECT`,
-//! [`save`] `.SAVE_PSECT`, [`restore`] `.RESTORE_PSECT`, [`entry`] `.ENTRY`, [`names`] `.GLOBAL`, `.WEAK` and `.EXTERNAL`, [`functions`] `.ENABLE` and `.DISABLE`, [`default`] `.DEFAULT`, [`assign_number`] what `.NTYPE` assigns, and [`end`] `.END`.
+//! [`save`] `.SAVE_PSECT`, [`restore`] `.RESTORE_PSECT`, [`entry`] `.ENTRY`, [`mask`] `.MASK`, [`names`] `.GLOBAL`, `.WEAK` and `.EXTERNAL`, [`functions`] `.ENABLE` and `.DISABLE`, [`default`] `.DEFAULT`, [`assign_number`] what `.NTYPE` assigns, and [`end`] `.END`.
 #![tactic(auto)]
 
 mod assignments;
@@ -10,6 +10,7 @@ mod contexts;
 mod defaults;
 mod entries;
 mod labels;
+mod masks;
 mod numbers;
 mod operands;
 mod sections;
@@ -20,6 +21,7 @@ pub use contexts::{restore, save};
 pub use defaults::default;
 pub use entries::{end, entry, names};
 pub use labels::label;
+pub use masks::mask;
 pub use numbers::assign_number;
 pub use sections::section;
 pub use switches::functions;

@@ -3,7 +3,7 @@
 ghost use Rattle.std.specs.Prelude.{◌≡◌, ◌<◌, ◌^◌, All, IfSome, Some, length, map, option_map};
 ghost use Rattle.vax_lex.specs.KeptNames.{kept_name};
 ghost use Rattle.vax_lex.specs.Tokens.{IsTokenOf};
-ghost use Rattle.vax_asm_labels.specs.Naming.{attribute_at, attribute_by, attributes_from, further_attribute, further_word, nothing_said, power_alone, section_chosen, section_stated, unnamed_chosen, with_absolute, with_align, with_attribute, with_write};
+ghost use Rattle.vax_asm_labels.specs.Naming.{attribute_at, attribute_by, attributes_from, further_attribute, further_word, nothing_said, power_alone, says_nothing, section_chosen, section_stated, unnamed_chosen, with_absolute, with_align, with_attribute, with_overlaid, with_write};
 ghost use Rattle.vax_asm_labels.specs.Within.{Within};
 ghost use Rattle.vax_asm_first.specs.View.{States};
 ghost use Rattle.vax_dialect.specs.Differences.{has_further_directives, has_unnamed_psect};
@@ -26,6 +26,7 @@ pub(crate) const NOTHING_SAID: Attributes = Attributes {
     align: None,
     write: None,
     absolute: None,
+    overlaid: None,
 };
 
 /// The attribute with this name.
@@ -61,7 +62,14 @@ fn power_alone(tokens: &[Token]) -> Option<Attribute>
     }
 }
 
-/// `ABS`, `NORD` or `VEC`.
+/// Whether a name is `NORD`, `VEC`, `MIX` or `NOMIX`, which say nothing here.
+fn says_nothing(name: &[u8]) -> bool
+    ensures { result ≡ says_nothing name.now }
+{
+    spells(b"NORD", name) || spells(b"VEC", name) || spells(b"MIX", name) || spells(b"NOMIX", name)
+}
+
+/// `ABS`, `OVR`, `NORD`, `VEC`, `MIX` or `NOMIX`.
 fn further_word(line: &[u8], tokens: &[Token]) -> Option<Attribute>
     requires { All (IsTokenOf line.now) tokens.now }
     ensures { result ≡ further_word line.now (name_alone line.now tokens.now) }
@@ -70,7 +78,9 @@ fn further_word(line: &[u8], tokens: &[Token]) -> Option<Attribute>
     let name = text_of(line, token);
     if spells(b"ABS", name) {
         Some(Attribute::Absolute(true))
-    } else if spells(b"NORD", name) || spells(b"VEC", name) {
+    } else if spells(b"OVR", name) {
+        Some(Attribute::Overlaid(true))
+    } else if says_nothing(name) {
         Some(Attribute::Ignored)
     } else {
         None
@@ -113,6 +123,7 @@ fn with_align(align: u8, said: Attributes) -> Option<Attributes>
             align: Some(align),
             write: said.write,
             absolute: said.absolute,
+            overlaid: said.overlaid,
         }),
     }
 }
@@ -127,6 +138,7 @@ fn with_write(write: bool, said: Attributes) -> Option<Attributes>
             align: said.align,
             write: Some(write),
             absolute: said.absolute,
+            overlaid: said.overlaid,
         }),
     }
 }
@@ -141,6 +153,22 @@ fn with_absolute(absolute: bool, said: Attributes) -> Option<Attributes>
             align: said.align,
             write: said.write,
             absolute: Some(absolute),
+            overlaid: said.overlaid,
+        }),
+    }
+}
+
+fn with_overlaid(overlaid: bool, said: Attributes) -> Option<Attributes>
+    ensures { result ≡ with_overlaid overlaid said said.overlaid }
+{
+    match said.overlaid {
+        Some(before) if before != overlaid => None,
+        Some(_) => Some(said),
+        None => Some(Attributes {
+            align: said.align,
+            write: said.write,
+            absolute: said.absolute,
+            overlaid: Some(overlaid),
         }),
     }
 }
@@ -155,6 +183,7 @@ fn with_attribute(attribute: Option<Attribute>, said: Option<Attributes>) -> Opt
         Attribute::Align(align) => with_align(align, said),
         Attribute::Write(write) => with_write(write, said),
         Attribute::Absolute(absolute) => with_absolute(absolute, said),
+        Attribute::Overlaid(overlaid) => with_overlaid(overlaid, said),
         Attribute::Ignored => Some(said),
     }
 }

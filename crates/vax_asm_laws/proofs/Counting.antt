@@ -92,8 +92,8 @@ current_counted s h = h.sections s.current unnamed h.current
 pub part_step : (n : ℕ) (p : Part Fixup) (s : Sections Fixup) → AreCounted s → part_length p ≡ n → BeginsAt (current_of s).size p → MayStand p → Step s (with_part n p s)
 part_step n p s h e b may =
     let x : Section Fixup = current_of s in
-    set_step s (longer n p x) (s.total + n) h (longer_counted n p x x.absolute (current_counted s h) e b) (longer_begins n p x x.absolute)
-    (λ all. longer_stands n p x x.absolute may all)
+    set_step s (longer n p x) (s.total + n) h (longer_counted n p x x.counter (current_counted s h) e b) (longer_begins n p x x.counter)
+    (λ all. longer_stands n p x x.counter may all)
 
 either_step : (n : ℕ) (p : Part Fixup) (s t : Sections Fixup) (a b : Bool) → Step s (with_part n p s)
     → (let r : Result (Sections Fixup) Refusal = if a then Err Absolute else (if b then Err TooLong else Ok (with_part n p s)) in r) ≡ Ok t → Step s t

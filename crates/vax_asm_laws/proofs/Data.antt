@@ -65,7 +65,7 @@ fixed_goes : (k : DataKind) (site : Site) (n : ℕ) (filling : Filling) (s : Sta
 fixed_goes k site n filling s c =
     added_goes (item_bytes k * n) (Field (record { origin = site.origin; at = (current_of s.sections).size; content = Data k n; filling = filling })) s c (data_length k n 0 ∙ mul_comm n (item_bytes k)) refl tt
 
-placed_goes : (k : DataKind) (site : Site) (f : Option FaultKind) (n : Result ℕ FaultKind) (filling : Filling) (s : Standing) → IsCounted s → Goes s (placed_item k site f n filling s).standing
+pub placed_goes : (k : DataKind) (site : Site) (f : Option FaultKind) (n : Result ℕ FaultKind) (filling : Filling) (s : Standing) → IsCounted s → Goes s (placed_item k site f n filling s).standing
 placed_goes k site None (Ok n) filling s c = fixed_goes k site n filling s c
 placed_goes k site (Some kind) (Ok n) filling s c = step_same s.sections c
 placed_goes k site None (Err kind) filling s c = step_same s.sections c

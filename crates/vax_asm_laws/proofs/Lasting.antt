@@ -3,11 +3,12 @@ use Rattle.std.proofs.Common.{◌≡◌, ◌⊎◌, ◌+◌, ℕ, Bool, true, fa
 use Rattle.std.proofs.lemmas.Bool.{cases_eq, cases_lt}
 use Rattle.std.proofs.lemmas.List.{get_or_append_left, get_or_past, get_or-set_other}
 use Rattle.std.specs.List.{list_any}
-use Rattle.std.specs.Prelude.{◌==◌, ◌&&◌, ◌^◌, not, codes, if◌then◌else◌, is_some, map, nat_lt, slice_set}
+use Rattle.std.specs.Prelude.{◌==◌, ◌&&◌, ◌^◌, not, codes, if◌then◌else◌, map, nat_lt, slice_set}
 use Rattle.std.specs.Str.{bytes_eq}
 use Rattle.vax_asm.specs.Placing.{FaultyLabel, Faulty, Placed, Stands, also, behind_label, beside, body_stated, directed, directive_named, if_wide, instructed, instruction_named, is_bad, is_listing, is_wide, operated_by, placed, placed_by, stated, stated_by, token_of, type_assigned, type_by, type_of_operand, with_range}
 use Rattle.vax_asm.specs.Walk.{Assembly}
 use Rattle.vax_asm_data.specs.Data.{Ending, Plain, Counted_first, Zero_last, Described, address_stated, addresses_stated, align_by, align_stated, align_to, at_most_one, before_pieces, behind_pieces, boundary, boundary_named, count_stated, count_within, data_stated, descriptor_head, descriptor_stated, even_stated, expression_stated, is_nothing, item_stated, items_stated, odd_stated, one_or_two, behind_fill, byte_of, fill_by, fill_where, filled_by, filling_with, piece_stated, pieces_length, pieces_stated, placed_item, room, room_by, space_stated, text_by, text_stated, unless_none, zero_stated}
+use Rattle.vax_asm_data.specs.Masks.{masked_stated, masked_told}
 use Rattle.vax_dialect.specs.Differences.{assigns_places, has_empty_items, has_further_directives, has_unnamed_psect}
 use Rattle.vax_asm_encode.specs.declared.operand.DataKind.{DataKind}
 use Rattle.vax_asm_encode.specs.declared.operand.DataKind.TheVariants.{Number}
@@ -27,7 +28,8 @@ use Rattle.vax_isa.specs.declared.actions.Narrow.{Narrow}
 use Rattle.vax_asm_labels.specs.Functions.{all_switched, function_at, functions_stated, switched, then_switched}
 use Rattle.vax_asm_labels.specs.declared.switches.Function.{Function}
 use Rattle.vax_asm_labels.specs.declared.switches.Function.TheVariants.{Idle, Externals, Absolute, LongBlocks}
-use Rattle.vax_asm_labels.specs.Naming.{next_block, assigned_by, assignment_stated, attributes_from, begins, begins_at, begins_with, chosen, defined, end_by, end_stated, entry_named, entry_stated, is_place, label_stated, local_stated, name_assigned, name_in, name_of, named, names_from, names_stated, nothing_said, not_assigned, section_by, section_chosen, section_stated, moved_to, place_assigned, place_moved, shared, target, unnamed_chosen, without_waiting, symbol_stated, two_alone, with_name}
+use Rattle.vax_asm_labels.specs.Naming.{next_block, assigned_by, assignment_stated, attributes_from, begins, begins_at, begins_with, chosen, defined, end_by, end_stated, entry_named, entry_stated, is_place, label_stated, local_stated, mask_kept, name_assigned, name_in, name_of, named, names_from, names_stated, nothing_said, not_assigned, noted_unless, noted_where, section_by, section_chosen, section_stated, moved_to, place_assigned, place_moved, shared, target, unnamed_chosen, without_waiting, symbol_stated, two_alone, with_name}
+use Rattle.vax_asm_labels.specs.Masks.{key_of, mask_as, mask_by, mask_named, mask_stated}
 use Rattle.vax_asm_labels.specs.Naming as naming
 use Rattle.vax_asm_labels.specs.Numbers.{number_at, number_by, number_stated}
 use Rattle.vax_asm_names.specs.Names as table
@@ -35,9 +37,10 @@ use Rattle.vax_asm_names.specs.declared.types.Duplicate.{Duplicate}
 use Rattle.vax_asm_names.specs.declared.types.Linkage.{Linkage}
 use Rattle.vax_asm_names.specs.declared.types.Linkage.TheVariants as links
 use Rattle.vax_asm_names.specs.declared.types.Local.{Local}
-use Rattle.vax_asm_scope.specs.Scope.{Bound, Entry, Scope, assign_to, assigned, bind_all, closed, entry, entry_by, is_external, is_local, labelled, linked, misses, labelled_locally, local_by, mean, mean_here, mean_local, mean_name, opened_if_fresh, renamed, with_externals, external_at}
+use Rattle.vax_asm_scope.specs.Masks.{in_masks, mask_labelled, mask_meant, returned}
+use Rattle.vax_asm_scope.specs.Scope.{Bound, Entry, Meant, Scope, assign_to, assigned, bind_all, closed, entry, entry_by, is_external, is_local, labelled, linked, misses, labelled_locally, local_by, mean, mean_here, mean_local, mean_name, opened_if_fresh, renamed, with_externals, external_at}
 use Rattle.vax_asm_scope.specs.Used.{at_term, used}
-use Rattle.vax_asm_sections.specs.Layout.{Bytes, Part, Sections, Zeros, aligned, current_of, gap, place_in as next_place, put, selected}
+use Rattle.vax_asm_sections.specs.Layout.{Bytes, Part, Sections, Zeros, aligned, current_of, gap, is_absolute, place_in as next_place, put, selected}
 use Rattle.vax_asm_sections.specs.declared.types.Attributes.{Attributes}
 use Rattle.vax_asm_sections.specs.declared.types.Refusal.{Refusal}
 use Rattle.vax_asm_statement.specs.Items.{Item, Piece, Characters, Value as ByteValue, item_of, name_alone, pieces_of as text_pieces, whole}
@@ -54,7 +57,9 @@ use Rattle.vax_isa.specs.declared.OperandKind.{OperandKind}
 use Rattle.vax_lex.specs.Grammar.{Symbol, symbols_of}
 use Rattle.vax_lex.specs.Tokens.{pieces_of, token_text}
 use Rattle.vax_lex.specs.declared.token.Token.{Token}
+use Rattle.vax_lex.specs.declared.value.ExprError.{ExprError}
 use Rattle.vax_lex.specs.declared.value.Value.{Value}
+use Rattle.vax_lex.specs.declared.value.Value.TheVariants as value
 use Rattle.vax_macro.specs.declared.error.FaultKind.{FaultKind}
 use Rattle.vax_macro.specs.declared.error.FaultKind.TheVariants as fault
 use Rattle.vax_word.specs.declared.Size.{Size}
@@ -412,11 +417,34 @@ restored_in (x ∷ tokens) s = tt
 symbol_in : (global : Bool) (name : List ℕ) (s : Standing) → StandIn s (symbol_stated global name s)
 symbol_in global name s = defined_in s (begins s.keeps_block global name (labelled name (here_in s.sections) s.scope)) (begins_in s.keeps_block global name s.scope (labelled name (here_in s.sections) s.scope) (labelled_lasts name (here_in s.sections) s.scope))
 
+returned_in : (block : ℕ) (s : Scope) (r : Result Scope Duplicate) → ScopeIn s r → ScopeIn s (returned block r)
+returned_in block s (Ok t) h = h
+returned_in block s (Err e) h = tt
+
+mask_labelled_lasts : (entry : List ℕ) (v : Value) (s : Scope) → ScopeIn s (mask_labelled entry v s)
+mask_labelled_lasts entry v s = returned_in s.names.block s (labelled_locally entry v (in_masks s)) (locally_lasts entry v (in_masks s))
+
+kept_in : (name : List ℕ) (mask : Result Value ExprError) (s : Standing) → StandIn s (mask_kept name mask s)
+kept_in name (Ok (value.Absolute n)) s = defined_in s (mask_labelled name (value.Absolute n) s.scope) (mask_labelled_lasts name (value.Absolute n) s.scope)
+kept_in name (Ok (value.Section i n)) s = stay_same s.scope.sources
+kept_in name (Ok (value.External i n)) s = stay_same s.scope.sources
+kept_in name (Err e) s = stay_same s.scope.sources
+
+unless_noted_in : (f : Option FaultKind) (site : Site) (name : List ℕ) (mask : List Token) (s : Standing) → StandIn s (noted_unless f site name mask s)
+unless_noted_in (Some kind) site name mask s = tt
+unless_noted_in None site name mask s =
+    let w = told site.dialect site.here (symbols_of site.line mask) s.scope in
+    stand_then s (with_scope w.scope s) (mask_kept name w.value (with_scope w.scope s)) (told_lasts site.dialect site.here (symbols_of site.line mask) s.scope) (kept_in name w.value (with_scope w.scope s))
+
+where_noted_in : (b : Bool) (site : Site) (name : List ℕ) (mask : List Token) (s : Standing) (p : Progress) → Lasts s.scope p.standing.scope → StandIn s (noted_where b site name mask p)
+where_noted_in true site name mask s p h = stand_then s p.standing (noted_unless p.fault site name mask p.standing) h (unless_noted_in p.fault site name mask p.standing)
+where_noted_in false site name mask s p h = done_in s p h
+
 entry_in : (site : Site) (name : Option (List ℕ)) (mask : List Token) (s : Standing) → StandIn s (entry_named site name mask s)
 entry_in site (Some name) mask s =
     let first : Progress = after_change s (symbol_stated true name s) in
     let last : Progress = item_stated (Number size.W) site (whole mask) first.standing in
-    done_in s (joined first.fault last) (stay_then s.scope.sources first.standing.scope.sources last.standing.scope.sources (changed_lasts s (symbol_stated true name s) (symbol_in true name s)) (item_lasts (Number size.W) site (whole mask) first.standing))
+    where_noted_in (has_further_directives site.dialect) site name mask s (joined first.fault last) (stay_then s.scope.sources first.standing.scope.sources last.standing.scope.sources (changed_lasts s (symbol_stated true name s) (symbol_in true name s)) (item_lasts (Number size.W) site (whole mask) first.standing))
 entry_in site None mask s = tt
 
 two_in : (found : List (List Token)) (s : Standing) (stated : List Token → List Token → Result Standing FaultKind) → ((x y : List Token) → StandIn s (stated x y)) → StandIn s (two_alone found stated)
@@ -545,7 +573,7 @@ moved_in (Err kind) s = tt
 place_in : (b : Bool) (site : Site) (tokens : List Token) (s : Standing) → StandIn s (place_assigned b site tokens s)
 place_in true site tokens s =
     let w = told site.dialect site.here (symbols_of site.line tokens) s.scope in
-    stand_then s (with_scope w.scope s) (place_moved site tokens s) (told_lasts site.dialect site.here (symbols_of site.line tokens) s.scope) (moved_in (target (is_some (current_of s.sections).absolute) s.sections.current w.value) (with_scope w.scope s))
+    stand_then s (with_scope w.scope s) (place_moved site tokens s) (told_lasts site.dialect site.here (symbols_of site.line tokens) s.scope) (moved_in (target (is_absolute (current_of s.sections)) s.sections.current w.value) (with_scope w.scope s))
 place_in false site tokens s = tt
 
 assignment_by : (place local : Bool) (site : Site) (global : Bool) (name : List ℕ) (tokens : List Token) (s : Standing)
@@ -588,10 +616,43 @@ types_in origin line (name ∷ []) s = type_in origin line name [] s
 types_in origin line (name ∷ operand ∷ []) s = type_in origin line name operand s
 types_in origin line (name ∷ operand ∷ more ∷ others) s = tt
 
+-- ---- masks of entries
+
+mask_meant_lasts : (entry : List ℕ) (s : Scope) → Lasts s (mask_meant entry s).scope
+mask_meant_lasts entry s = local_lasts entry (in_masks s) (table.locals_of (in_masks s).names entry)
+
+masked_lasts : (site : Site) (entry : List ℕ) (key : Token) (tokens : List Token) (s : Standing) → Lasts s.scope (masked_stated site entry key tokens s).standing.scope
+masked_lasts site entry key tokens s =
+    let here : Value = here_at s.dialect site.here (here_in s.sections) in
+    let m : Meant = mask_meant entry s.scope in
+    let t = masked_told site entry key tokens here s in
+    let last : Standing = (masked_stated site entry key tokens s).standing in
+    stay_then s.scope.sources m.scope.sources last.scope.sources (mask_meant_lasts entry s.scope)
+    (stay_then m.scope.sources t.scope.sources last.scope.sources (bound_lasts here (record { names = []; scope = m.scope }) (used at_term (symbols_of site.line tokens)))
+    (placed_lasts (Number size.W) site _ (Ok 1) _ (with_scope t.scope s)))
+
+mask_as_in : (site : Site) (entry : List ℕ) (tokens : List Token) (key : Option Token) (s : Standing) → StandIn s (mask_as site entry tokens key s)
+mask_as_in site entry tokens (Some key) s = done_in s (masked_stated site entry key tokens s) (masked_lasts site entry key tokens s)
+mask_as_in site entry tokens None s = tt
+
+mask_at_in : (place : Bool) (site : Site) (entry : List ℕ) (tokens : List Token) (key : Option Token) (s : Standing) → StandIn s (if place then Err fault.Form else mask_as site entry tokens key s)
+mask_at_in true site entry tokens key s = tt
+mask_at_in false site entry tokens key s = mask_as_in site entry tokens key s
+
+mask_named_in : (site : Site) (o : Option Token) (tokens : List Token) (s : Standing) → StandIn s (mask_named site o tokens s)
+mask_named_in site (Some entry) tokens s = mask_at_in (is_place (name_in site.line entry)) site (name_in site.line entry) tokens (key_of site.line entry tokens) s
+mask_named_in site None tokens s = tt
+
+masks_in : (site : Site) (found : List (List Token)) (s : Standing) → StandIn s (mask_by site found s)
+masks_in site [] s = tt
+masks_in site (entry ∷ []) s = mask_named_in site (name_alone site.line entry) [] s
+masks_in site (entry ∷ tokens ∷ []) s = mask_named_in site (name_alone site.line entry) tokens s
+masks_in site (entry ∷ tokens ∷ more ∷ others) s = tt
+
 -- ---- directives
 
 directed_in : (d : Directive) (origin : Origin) (line : List ℕ) (tokens : List Token) (s : Standing) → StandIn s (directed d origin line tokens s)
-unfolding section_stated entry_stated saved_stated default_stated data_stated addresses_stated text_stated space_stated reference_stated align_stated names_stated functions_stated end_stated
+unfolding section_stated entry_stated saved_stated default_stated data_stated addresses_stated text_stated space_stated reference_stated align_stated names_stated functions_stated mask_stated end_stated
 directed_in directive.Section origin line tokens s = section_in line (parts tokens) s
 directed_in directive.Entry origin line tokens s = two_in (parts tokens) s _ (λ name mask. entry_in (site_of origin line s) (name_of line name) mask s)
 directed_in (directive.Data kind) origin line tokens s =
@@ -623,6 +684,7 @@ directed_in directive.Save origin line tokens s = saved_in (block_wanted line (p
 directed_in directive.Restore origin line tokens s = restored_in tokens s
 directed_in directive.Listing origin line tokens s = stay_same s.scope.sources
 directed_in directive.OperandType origin line tokens s = types_in origin line (parts tokens) s
+directed_in directive.Mask origin line tokens s = masks_in (site_of origin line s) (parts tokens) s
 directed_in directive.Error origin line tokens s = tt
 directed_in directive.End origin line tokens s = end_in line (parts tokens) s
 

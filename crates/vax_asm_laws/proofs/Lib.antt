@@ -1,5 +1,6 @@
 pub mod Counting
 pub mod Data
+mod Masking
 mod Naming
 mod Operands
 mod Typing

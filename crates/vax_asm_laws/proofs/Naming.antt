@@ -1,12 +1,15 @@
 -- Names, sections, entries and the end.
 use Rattle.std.proofs.Common.{◌≡◌, ℕ, Bool, true, false, List, [], ◌∷◌, Option, Some, None, Result, Ok, Err, refl, sym, ap, subst, ◌∙◌}
-use Rattle.std.specs.Prelude.{◌&&◌, ◌++◌, is_some, length, nat_lt, not, if◌then◌else◌}
-use Rattle.vax_dialect.specs.Differences.{assigns_places, has_unnamed_psect}
-use Rattle.vax_asm_sections.specs.Layout.{Sections, current_of, selected}
+use Rattle.std.specs.Prelude.{◌&&◌, ◌++◌, length, nat_lt, not, if◌then◌else◌}
+use Rattle.vax_dialect.specs.Differences.{assigns_places, has_further_directives, has_unnamed_psect}
+use Rattle.vax_asm_sections.specs.Layout.{Sections, current_of, is_absolute, selected}
 use Rattle.vax_asm_sections.specs.declared.types.Attributes.{Attributes}
 use Rattle.vax_asm_sections.specs.declared.types.Refusal.{Refusal}
 use Rattle.vax_lex.specs.Grammar.{symbols_of}
 use Rattle.vax_lex.specs.declared.token.Token.{Token}
+use Rattle.vax_lex.specs.declared.value.ExprError.{ExprError}
+use Rattle.vax_lex.specs.declared.value.Value.{Value}
+use Rattle.vax_lex.specs.declared.value.Value.TheVariants as value
 use Rattle.vax_macro.specs.declared.error.FaultKind.{FaultKind}
 use Rattle.vax_macro.specs.declared.error.FaultKind.TheVariants as fault
 use Rattle.vax_asm_names.specs.declared.types.Duplicate.{Duplicate}
@@ -17,11 +20,12 @@ use Rattle.vax_isa.specs.declared.actions.Narrow.{Narrow}
 use Rattle.vax_asm_labels.specs.Functions.{all_switched, function_at, functions_stated, switched, then_switched}
 use Rattle.vax_asm_labels.specs.declared.switches.Function.{Function}
 use Rattle.vax_asm_labels.specs.declared.switches.Function.TheVariants.{Idle, Externals, Absolute, LongBlocks}
-use Rattle.vax_asm_labels.specs.Naming.{next_block, moved_to, place_assigned, target, unnamed_chosen, without_waiting, assigned_by, assignment_stated, attributes_from, begins, begins_at, begins_with, chosen, defined, end_by, end_stated, entry_named, entry_stated, fault_of, is_place, label_stated, local_stated, name_assigned, name_in, name_of, named, names_from, names_stated, not_assigned, nothing_said, section_by, section_chosen, section_stated, shared, symbol_stated, two_alone}
+use Rattle.vax_asm_labels.specs.Naming.{next_block, moved_to, place_assigned, target, unnamed_chosen, without_waiting, assigned_by, assignment_stated, attributes_from, begins, begins_at, begins_with, chosen, defined, end_by, end_stated, entry_named, entry_stated, fault_of, is_place, label_stated, local_stated, mask_kept, name_assigned, name_in, name_of, named, names_from, names_stated, not_assigned, noted_unless, noted_where, nothing_said, section_by, section_chosen, section_stated, shared, symbol_stated, two_alone}
 use Rattle.vax_asm_first.specs.Fixups.{Fixup}
 use Rattle.vax_asm_first.specs.Progress.{Progress, Site, after_change, joined, site_of}
 use Rattle.vax_asm_first.specs.Standing.{Saved, Standing, Told, block_of, here_in, last_of, told, with_scope, without_last}
 use Rattle.vax_asm_first.specs.declared.types.Origin.{Origin}
+use Rattle.vax_asm_scope.specs.Masks.{mask_labelled}
 use Rattle.vax_asm_scope.specs.Scope.{Entry, Scope, assigned, assuming, entry, in_block, is_local, labelled, labelled_locally, misses}
 use Rattle.vax_asm_statement.specs.Items.{whole}
 use Rattle.vax_asm_statement.specs.Parts.{parts}
@@ -85,7 +89,7 @@ moved_goes s t (Err kind) c e = cc
 place_goes : (b : Bool) (site : Site) (tokens : List Token) (s t : Standing) → IsCounted s → place_assigned b site tokens s ≡ Ok t → Goes s t
 place_goes true site tokens s t c e =
     let w : Told = told site.dialect site.here (symbols_of site.line tokens) s.scope in
-    moved_goes (with_scope w.scope s) t (target (is_some (current_of s.sections).absolute) s.sections.current w.value) c e
+    moved_goes (with_scope w.scope s) t (target (is_absolute (current_of s.sections)) s.sections.current w.value) c e
 place_goes false site tokens s t c e = cc
 
 assignment_by : (place local : Bool) (site : Site) (global : Bool) (name : List ℕ) (tokens : List Token) (s t : Standing) → IsCounted s
@@ -169,12 +173,30 @@ restored_goes (x ∷ tokens) s t c e = cc
 
 -- ---- entries, names, the end
 
+kept_goes : (name : List ℕ) (mask : Result Value ExprError) (s t : Standing) → IsCounted s → mask_kept name mask s ≡ Ok t → Goes s t
+kept_goes name (Ok (value.Absolute n)) s t c e = defined_goes s t (mask_labelled name (value.Absolute n) s.scope) c e
+kept_goes name (Ok (value.Section i n)) s t c e = same_goes s t s c refl e
+kept_goes name (Ok (value.External i n)) s t c e = same_goes s t s c refl e
+kept_goes name (Err x) s t c e = same_goes s t s c refl e
+
+unless_noted_goes : (f : Option FaultKind) (site : Site) (name : List ℕ) (mask : List Token) (s t : Standing) → IsCounted s → noted_unless f site name mask s ≡ Ok t → Goes s t
+unless_noted_goes (Some kind) site name mask s t c e = cc
+unless_noted_goes None site name mask s t c e =
+    let w : Told = told site.dialect site.here (symbols_of site.line mask) s.scope in
+    kept_goes name w.value (with_scope w.scope s) t c e
+
+where_noted_goes : (b : Bool) (site : Site) (name : List ℕ) (mask : List Token) (s t : Standing) (p : Progress) → Goes s p.standing → noted_where b site name mask p ≡ Ok t → Goes s t
+where_noted_goes true site name mask s t p h e =
+    step_then s.sections p.standing.sections t.sections h (unless_noted_goes p.fault site name mask p.standing t h.counted e)
+where_noted_goes false site name mask s t p h e = done_goes s t p h e
+
 entry_goes_by : (site : Site) (name : Option (List ℕ)) (mask : List Token) (s t : Standing) → IsCounted s → entry_named site name mask s ≡ Ok t → Goes s t
 entry_goes_by site (Some name) mask s t c e =
     let first : Progress = after_change s (symbol_stated true name s) in
     let second : Progress = item_stated (Number size.W) site (whole mask) first.standing in
     let a : Goes s first.standing = after_change_goes s (symbol_stated true name s) c (λ u made. symbol_goes true name s u c made) in
-    done_goes s t (joined first.fault second) (step_then s.sections first.standing.sections second.standing.sections a (item_goes (Number size.W) site (whole mask) first.standing a.counted)) e
+    where_noted_goes (has_further_directives site.dialect) site name mask s t (joined first.fault second)
+    (step_then s.sections first.standing.sections second.standing.sections a (item_goes (Number size.W) site (whole mask) first.standing a.counted)) e
 entry_goes_by site None mask s t c e = cc
 
 two_goes : (found : List (List Token)) (stated : List Token → List Token → Result Standing FaultKind) (s t : Standing) → ((x y : List Token) → stated x y ≡ Ok t → Goes s t) → two_alone found stated ≡ Ok t → Goes s t

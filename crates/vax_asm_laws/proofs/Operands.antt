@@ -19,7 +19,7 @@ use Rattle.vax_word.specs.declared.Size.{Size}
 use Rattle.vax_asm_first.specs.Faults.{lowest}
 use Rattle.vax_asm_first.specs.Fixups.{Filling, Fixup}
 use Rattle.vax_asm_first.specs.Progress.{Progress, Site, added, done, done_by, site_of}
-use Rattle.vax_asm_first.proofs.Putting.{IsData, longer_relative, put_made, put_relative}
+use Rattle.vax_asm_first.proofs.Putting.{IsData, longer_held, put_made, put_held}
 use Rattle.vax_asm_first.specs.Standing.{Standing, with_scope}
 use Rattle.vax_asm_first.specs.declared.types.Origin.{Origin}
 use Rattle.vax_asm_statement.specs.Parts.{parts}
@@ -70,7 +70,7 @@ added_fine : (n : ℕ) (p : Part Fixup) (s : Standing) → IsData p → IsCounte
 added_fine n p s sort c e b may h =
     let made : (added n p s).standing.sections ≡ with_part n p s.sections = ap (λ (t : Standing). t.sections) (put_made n p s h) in
     let x : Section Fixup = current_of s.sections in
-    let size : (longer n p x).size ≡ x.size + n = ap (λ (y : Section Fixup). y.size) (longer_relative n p x (put_relative n p s sort h)) in
+    let size : (longer n p x).size ≡ x.size + n = ap (λ (y : Section Fixup). y.size) (longer_held n p x (put_held n p s sort h)) in
     record {
       goes = subst (λ (x : Sections Fixup). Step s.sections x) (sym made) (part_step n p s.sections c e b may);
       at = sym (ap (λ (x : Sections Fixup). (current_of x).size) made ∙ ap (λ x. x.size) (get_or-set_same s.sections.all s.sections.current (longer n p (current_of s.sections)) unnamed c.current) ∙ size);

@@ -24,6 +24,7 @@ use Rattle.vax_asm_statement.specs.declared.directives.Directive.TheVariants as 
 use Rattle.vax_asm_statement.specs.declared.reading.Label.{Label}
 use Rattle.vax_asm_laws.proofs.Counting.{step_then}
 use Rattle.vax_asm_laws.proofs.Data.{Goes, IsCounted, addresses_go, align_goes, data_goes, even_goes, odd_goes, space_goes, text_goes}
+use Rattle.vax_asm_laws.proofs.Masking.{mask_goes}
 use Rattle.vax_asm_laws.proofs.Naming.{assignment_goes, default_goes, end_goes, entry_goes, functions_go, label_goes, names_go, restored_goes, same_goes, saved_goes, section_goes}
 use Rattle.vax_asm_laws.proofs.Operands.{instruction_goes, reference_goes}
 use Rattle.vax_asm_laws.proofs.Typing.{types_go}
@@ -52,6 +53,7 @@ directed_goes directive.Save origin line tokens s t c e = saved_goes line tokens
 directed_goes directive.Restore origin line tokens s t c e = restored_goes tokens s t c e
 directed_goes directive.Listing origin line tokens s t c e = same_goes s t s c refl e
 directed_goes directive.OperandType origin line tokens s t c e = types_go origin line (parts tokens) s t c e
+directed_goes directive.Mask origin line tokens s t c e = mask_goes origin line tokens s t c e
 directed_goes directive.Error origin line tokens s t c e = absurd cc
 directed_goes directive.End origin line tokens s t c e = end_goes line tokens s t c e
 

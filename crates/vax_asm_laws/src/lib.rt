@@ -35,7 +35,7 @@ pub fn modules_have_what_was_counted()
 {}
 
 /// Where a statement begins in a section, there the bytes begin in the module that it and those behind it put into the section. So a label,
-/// whose value is the place where its statement begins, names what stands behind it. An absolute section has no bytes, and its labels are numbers.
+/// whose value is the place where its statement begins, names what stands behind it. An absolute section has no bytes, and its labels are numbers; an overlaid one has none either.
 pub fn labels_name_what_stands_behind()
     ensures { (halves : Halves) (m : Module) (i : ℕ) (section : Section) → IsOf halves m →
         i < length halves.middle.standing.sections.all → slice_get m.sections i ≡ Some section →

@@ -1,6 +1,6 @@
 -- The listing of a program's modules: the lines of each with the addresses and the bytes of its statements, its sections and its names; and where
 -- the program begins (VAX MACRO and Instruction Set Reference Manual, "VAX MACRO listing").
-use Rattle.std.specs.Prelude.{ℕ, ◌+◌, ◌-◌, ◌*◌, ◌/◌, ◌%◌, ◌^◌, Bool, true, false, ◌&&◌, ◌==◌, nat_le, nat_lt, if◌then◌else◌, List, [], ◌∷◌, ◌++◌, length, take, drop, replicate, slice_index, codes, decimal, Option, Some, None}
+use Rattle.std.specs.Prelude.{ℕ, ◌+◌, ◌-◌, ◌*◌, ◌/◌, ◌%◌, ◌^◌, Bool, true, false, ◌&&◌, ◌==◌, nat_le, nat_lt, if◌then◌else◌, List, [], ◌∷◌, ◌++◌, length, max, take, drop, replicate, slice_index, codes, decimal, Option, Some, None}
 use Rattle.std.specs.List.{flat_map, list_all}
 use Rattle.std.specs.Str.{bytes_eq}
 use Rattle.vax_outside.specs.Hex.{hex}
@@ -97,12 +97,12 @@ pub record Placing : Type 0 where
   pub areas : List Area
   pub places : List ℕ
 
--- An absolute section is at address 0, and has no bytes.
+-- An absolute section is at address 0. It has no bytes, and neither has another that only counts.
 abbrev pub address_of : Placing → Row → ℕ
 address_of p row = if row.absolute then row.begin else (slice_index p.places row.section + row.begin) % 2 ^ 32
 
 abbrev pub bytes_of : Placing → Row → List ℕ
-bytes_of p row = if row.absolute then [] else bytes_at (address_of p row) (row.end - row.begin) p.areas
+bytes_of p row = if row.counts then [] else bytes_at (address_of p row) (row.end - row.begin) p.areas
 
 abbrev pub row_lines : Placing → Option ℕ → Row → List ℕ
 row_lines p number row = statement_lines number (address_of p row) (bytes_of p row) row.text
@@ -159,13 +159,16 @@ abbrev pub attribute : Bool → List ℕ
 attribute true = codes " WRT   "
 attribute false = codes " NOWRT "
 
--- a section: where it lies, how many bytes it has, whether it may be written, and its name
+-- a section: where it lies, how many bytes it has or lays over others, whether it may be written, and its name
 abbrev pub name_cell : List ℕ → List ℕ
 name_cell [] = codes ". BLANK ."
 name_cell (c ∷ name) = c ∷ name
 
+abbrev pub extent_of : Section → ℕ
+extent_of s = max (length s.bytes) s.storage
+
 unfoldable pub section_line : (place : ℕ) → Section → List ℕ
-section_line place s = hex 8 place ++ (32 ∷ number_cell (length s.bytes) ++ (attribute s.write ++ (name_cell s.name ++ 10 ∷ [])))
+section_line place s = hex 8 place ++ (32 ∷ number_cell (extent_of s) ++ (attribute s.write ++ (name_cell s.name ++ 10 ∷ [])))
 
 -- the sections of a module, behind so many
 unfoldable pub section_lines : Placing → ℕ → List Section → List ℕ

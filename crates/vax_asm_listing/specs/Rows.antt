@@ -1,12 +1,12 @@
 -- What each statement of a source put where (VAX MACRO and Instruction Set Reference Manual, "Location counter").
-use Rattle.std.specs.Prelude.{◌≡◌, ℕ, ◌==◌, if◌then◌else◌, List, [], ◌∷◌, is_some, map, None, Ok}
+use Rattle.std.specs.Prelude.{◌≡◌, ℕ, ◌==◌, if◌then◌else◌, List, [], ◌∷◌, map, None, Ok}
 use Rattle.vax_asm.specs.View.{Stood}
 use Rattle.vax_asm.specs.Walk.{Assembly, names_in, nothing}
 use Rattle.vax_asm_first.specs.Standing.{Standing}
 use Rattle.vax_asm_first.specs.declared.types.Origin.{Origin}
 use Rattle.vax_asm_names.specs.Names.{Name}
 use Rattle.vax_asm_scope.specs.Scope.{Scope}
-use Rattle.vax_asm_sections.specs.Layout.{current_of, place_in}
+use Rattle.vax_asm_sections.specs.Layout.{current_of, is_absolute, only_counts, place_in}
 use Rattle.vax_asm_second.specs.Modules.{filled_in}
 use Rattle.vax_asm_values.specs.Values.{value_of}
 use Rattle.vax_dialect.specs.declared.Dialect.{Dialect}
@@ -22,10 +22,11 @@ abbrev pub point_of : Standing → Point
 point_of s = record {
   section = s.sections.current;
   offset = place_in (current_of s.sections);
-  absolute = is_some (current_of s.sections).absolute;
+  absolute = is_absolute (current_of s.sections);
+  counts = only_counts (current_of s.sections);
 }
 
--- A statement's bytes lie where the section grew that it went into. One that chooses a section has none, and one in an absolute section only counts.
+-- A statement's bytes lie where the section grew that it went into. One that chooses a section has none, and one in a section that only counts none either.
 abbrev pub begin_of : (before after : Point) → ℕ
 begin_of before after = if before.section == after.section then before.offset else after.offset
 
@@ -37,6 +38,7 @@ row_of origin text before after = record {
   begin = begin_of before after;
   end = after.offset;
   absolute = after.absolute;
+  counts = after.counts;
 }
 
 -- A statement that stands leads from what was left before to this, and has this row.

@@ -87,11 +87,11 @@ impl Placing<'_> {
     }
 }
 
-/// The bytes of a statement; in an absolute section it has none.
+/// The bytes of a statement; in a section that only counts it has none.
 fn bytes_of<'a>(placing: Placing<'a>, row: &Row) -> &'a [u8]
     ensures { result.now ≡ spec.bytes_of (placing_of placing.entry) row.now }
 {
-    if row.absolute {
+    if row.counts {
         return &[];
     }
     let addr = placing.address(row);

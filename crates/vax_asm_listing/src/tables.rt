@@ -23,14 +23,21 @@ fn push_name(out: &mut Vec<u8>, name: &[u8]) -> Result<(), AllocError>
     out.extend_from_slice(name)
 }
 
-/// Appends a section: where it lies, how many bytes it has, whether it may be written, and its name.
+/// How many bytes a section has, or lays over others.
+fn extent_of(section: &Section) -> u64
+    ensures { result ≡ spec.extent_of section.now }
+{
+    (section.bytes.as_slice().len() as u64).max(u64::from(section.storage))
+}
+
+/// Appends a section: where it lies, how many bytes it has or lays over others, whether it may be written, and its name.
 #[tactic(auto, unfolding(crate::specs::Listing::section_line))]
 fn push_section(out: &mut Vec<u8>, place: u32, section: &Section) -> Result<(), AllocError>
     ensures { OnOk result (out.new.items ≡ out.old.items ++ spec.section_line place section.now) }
 {
     push_address(out, place)?;
     out.push(b' ')?;
-    push_number(out, section.bytes.as_slice().len() as u64)?;
+    push_number(out, extent_of(section))?;
     let attribute = if section.write {
         b" WRT   "
     } else {

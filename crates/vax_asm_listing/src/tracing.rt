@@ -32,6 +32,7 @@ fn point_of(standing: &Standing) -> Point
         section: standing.layout.number(),
         offset: standing.place(),
         absolute: standing.in_absolute(),
+        counts: standing.only_counts(),
     }
 }
 
@@ -50,6 +51,7 @@ fn row_of(origin: Origin, text: Bytes, before: Point, after: Point) -> Row
         },
         end: after.offset,
         absolute: after.absolute,
+        counts: after.counts,
     }
 }
 

@@ -5,16 +5,17 @@ use vax_lex::Value;
 use vax_module::{Bytes, Module};
 use vax_space::Area;
 
-/// A place in a module: a section, by its number, an offset in bytes, and whether the section is absolute.
+/// A place in a module: a section, by its number, an offset in bytes, and whether the section is absolute, and only counts.
 #[derive(Clone, Copy, PartialEq, Eq)]
 pub struct Point {
     pub section: usize,
     pub offset: u32,
     pub absolute: bool,
+    pub counts: bool,
 }
 
-/// A statement, and where its bytes lie: in this section of its module, from one offset up to another. In an absolute section it has no
-/// bytes: it counts from the one number to the other.
+/// A statement, and where its bytes lie: in this section of its module, from one offset up to another. In a section that only counts it
+/// has no bytes: it counts from the one number to the other. An absolute section only counts, and so does an overlaid one.
 #[derive(Drop)]
 pub struct Row {
     pub origin: Origin,
@@ -23,6 +24,7 @@ pub struct Row {
     pub begin: u32,
     pub end: u32,
     pub absolute: bool,
+    pub counts: bool,
 }
 
 /// A name of a module, which is no local label: in capitals, whether other modules may use it, and what it is worth. A name without a value

@@ -1,5 +1,5 @@
 -- How the table of names changes.
-use Rattle.std.proofs.Common.{add-one, ◌≡◌, ℕ, ◌<◌, ◌+◌, List, [], ◌∷◌, ◌++◌, length, map, slice_index_or, slice_set, Bool, true, false, cond, Option, Some, None, Result, Ok, Err, Vec, sym, ap, subst, ◌∙◌, arith}
+use Rattle.std.proofs.Common.{◌≡◌, ℕ, suc, ◌<◌, ◌+◌, List, [], ◌∷◌, ◌++◌, length, map, slice_index_or, slice_set, Bool, true, false, cond, Option, Some, None, Result, Ok, Err, Vec, sym, ap, subst, ◌∙◌, arith}
 use Rattle.std.proofs.lemmas.List.{map-set, get_or-map, map-append, length-map, length-append}
 use Rattle.std.proofs.Math.Seq.{map-set_same}
 use Rattle.std.specs.Option.{ForSome}
@@ -82,20 +82,23 @@ one_is_linked linkage s xs i x b h is e =
 pub block_added : (xs : List Block) (b : Block) → b.entries ≡ [] → map by_name (xs ++ b ∷ []) ≡ map by_name xs ++ no_locals ∷ []
 block_added xs b e = map-append by_name xs (b ∷ []) ∙ ap (λ (l : List ℕ → Option Local). map by_name xs ++ l ∷ []) (nothing_named b e)
 
+add-two : (i : ℕ) → i + 2 ≡ suc (suc i)
+add-two i = omega arith
+
 -- the labels of a further block are seen, and become others
 further_seen : (xs : List Block) (i : ℕ) (d : Block) → i < length xs → slice_index_or (map by_name xs) i no_locals ≡ by_name (slice_index_or xs i d)
 further_seen xs i d h = get_or-map by_name xs i d no_locals h
 
-pub block_seen : (f : Block) (xs : List Block) (block i : ℕ) (d : Block) → i < length xs → block ≡ i + 1 → slice_index_or (by_name f ∷ map by_name xs) block no_locals ≡ by_name (slice_index_or xs i d)
-block_seen f xs block i d h e = ap (λ (k : ℕ). slice_index_or (by_name f ∷ map by_name xs) k no_locals) (e ∙ add-one i) ∙ further_seen xs i d h
+pub block_seen : (m f : Block) (xs : List Block) (block i : ℕ) (d : Block) → i < length xs → block ≡ i + 2 → slice_index_or (by_name m ∷ by_name f ∷ map by_name xs) block no_locals ≡ by_name (slice_index_or xs i d)
+block_seen m f xs block i d h e = ap (λ (k : ℕ). slice_index_or (by_name m ∷ by_name f ∷ map by_name xs) k no_locals) (e ∙ add-two i) ∙ further_seen xs i d h
 
 further_put : (xs : List Block) (i : ℕ) (text : List ℕ) (l : Local) (d b : Block) → i < length xs → by_name b ≡ with_entry text (Some l) (by_name (slice_index_or xs i d))
     → map by_name (slice_set xs i b) ≡ slice_set (map by_name xs) i (with_entry text (Some l) (slice_index_or (map by_name xs) i no_locals))
 further_put xs i text l d b h e =
     map-set by_name xs i b ∙ ap (slice_set (map by_name xs) i) (e ∙ ap (with_entry text (Some l)) (sym (further_seen xs i d h)))
 
-pub label_put : (f : Block) (xs : List Block) (block i : ℕ) (text : List ℕ) (l : Local) (x b : Block) → i < length xs → block ≡ i + 1 → x ≡ slice_index_or xs i x → by_name b ≡ with_entry text (Some l) (by_name x)
-    → by_name f ∷ map by_name (slice_set xs i b) ≡ slice_set (by_name f ∷ map by_name xs) block (with_entry text (Some l) (slice_index_or (by_name f ∷ map by_name xs) block no_locals))
-label_put f xs block i text l x b h is old e =
-    ap (λ (t : List (List ℕ → Option Local)). by_name f ∷ t) (further_put xs i text l x b h (e ∙ ap (λ (m : Block). with_entry text (Some l) (by_name m)) old))
-    ∙ ap (λ (k : ℕ). slice_set (by_name f ∷ map by_name xs) k (with_entry text (Some l) (slice_index_or (by_name f ∷ map by_name xs) k no_locals))) (sym (is ∙ add-one i))
+pub label_put : (m f : Block) (xs : List Block) (block i : ℕ) (text : List ℕ) (l : Local) (x b : Block) → i < length xs → block ≡ i + 2 → x ≡ slice_index_or xs i x → by_name b ≡ with_entry text (Some l) (by_name x)
+    → by_name m ∷ by_name f ∷ map by_name (slice_set xs i b) ≡ slice_set (by_name m ∷ by_name f ∷ map by_name xs) block (with_entry text (Some l) (slice_index_or (by_name m ∷ by_name f ∷ map by_name xs) block no_locals))
+label_put m f xs block i text l x b h is old e =
+    ap (λ (t : List (List ℕ → Option Local)). by_name m ∷ by_name f ∷ t) (further_put xs i text l x b h (e ∙ ap (λ (y : Block). with_entry text (Some l) (by_name y)) old))
+    ∙ ap (λ (k : ℕ). slice_set (by_name m ∷ by_name f ∷ map by_name xs) k (with_entry text (Some l) (slice_index_or (by_name m ∷ by_name f ∷ map by_name xs) k no_locals))) (sym (is ∙ add-two i))

@@ -25,7 +25,8 @@ abbrev pub no_locals : List ℕ → Option Local
 no_locals text = None
 
 -- The number of each name; the names in the order in which they first appeared; the blocks of local labels so far, each with its local
--- labels; which of them is the current one; and whether another module may define a name that appears from here on.
+-- labels; which of them is the current one; and whether another module may define a name that appears from here on. No statement is in
+-- the first of the blocks: it has the masks of entries, by the names of these.
 pub record Names : Type 0 where
   pub numbers : List ℕ → Option ℕ
   pub all : List Name
@@ -34,7 +35,7 @@ pub record Names : Type 0 where
   pub assumes_external : Bool
 
 abbrev pub no_names : Names
-no_names = record { numbers = λ text. None; all = []; blocks = no_locals ∷ []; block = 0; assumes_external = true }
+no_names = record { numbers = λ text. None; all = []; blocks = no_locals ∷ no_locals ∷ []; block = 1; assumes_external = true }
 
 -- the local labels of the current block
 abbrev pub locals_of : Names → List ℕ → Option Local

@@ -13,7 +13,7 @@ abbrev pub name_of : Name → specs.Name
 name_of n = record { text = n.text.items; definition = n.definition; defined_by = n.defined_by; global = n.global; external = n.external; weak = n.weak }
 
 abbrev pub names_of : NameTable → specs.Names
-names_of t = record { numbers = by_name t.numbers; all = map name_of t.names.items; blocks = by_name t.first_block ∷ map by_name t.further_blocks.items; block = t.block; assumes_external = t.assumes_external }
+names_of t = record { numbers = by_name t.numbers; all = map name_of t.names.items; blocks = by_name t.masks ∷ by_name t.first_block ∷ map by_name t.further_blocks.items; block = t.block; assumes_external = t.assumes_external }
 
 -- a name becomes another, or is as before
 abbrev pub Becomes : Result Unit Duplicate → specs.Name → specs.Name → Result specs.Name Duplicate → Type 0

@@ -127,9 +127,10 @@ impl NameTable {
         NameTable {
             numbers: BTreeMap::new(alloc),
             names: Vec::new(alloc),
+            masks: BTreeMap::new(alloc),
             first_block: BTreeMap::new(alloc),
             further_blocks: Vec::new(alloc),
-            block: 0,
+            block: 1,
             assumes_external: true,
         }
     }
@@ -221,7 +222,8 @@ impl NameTable {
     fn labels(&self) -> &BTreeMap<Vec<u8>, Local>
         ensures { by_name result.now ≡ locals_of (names_of self.now) }
     {
-        match self.block.checked_sub(1) {
+        match self.block.checked_sub(2) {
+            None if self.block == 0 => &self.masks,
             None => &self.first_block,
             Some(further) => &self.further_blocks[further],
         }
@@ -241,7 +243,11 @@ impl NameTable {
     fn put_local(&mut self, alloc: Global, text: &[u8], local: Local) -> Result<(), NoMemory>
         ensures { OnOk result (names_of self.new ≡ with_local text.now local (names_of self.old)) }
     {
-        match self.block.checked_sub(1) {
+        match self.block.checked_sub(2) {
+            None if self.block == 0 => {
+                put(alloc, &mut self.masks, text, local)?;
+                Ok(())
+            }
             None => {
                 put(alloc, &mut self.first_block, text, local)?;
                 Ok(())
@@ -305,7 +311,7 @@ impl NameTable {
         ensures { OnOk result (names_of self.new ≡ in_next_block (names_of self.old)) }
     {
         add_block(alloc, &mut self.further_blocks)?;
-        self.block = self.further_blocks.len();
+        self.block = self.further_blocks.len() + 1;
         Ok(())
     }
 
@@ -313,7 +319,7 @@ impl NameTable {
     pub fn go_back(&mut self, block: usize)
         ensures { names_of self.new ≡ in_block block (names_of self.old) }
     {
-        if block <= self.further_blocks.len() {
+        if block <= self.further_blocks.len() + 1 {
             self.block = block;
         }
     }

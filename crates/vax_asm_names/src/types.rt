@@ -1,6 +1,6 @@
 // What the table of names is built of.
 
-ghost use Rattle.std.specs.Prelude.{◌<◌, ◌≤◌, ℕ, List, length};
+ghost use Rattle.std.specs.Prelude.{◌<◌, ◌≤◌, ◌+◌, ℕ, List, length};
 ghost use Rattle.std.specs.Option.{ForSome};
 ghost use Rattle.vax_asm_names.specs.ByName.{by_name};
 
@@ -69,13 +69,15 @@ pub enum LabelError {
 pub struct NameTable {
     pub(crate) numbers: BTreeMap<Vec<u8>, usize>,
     pub(crate) names: Vec<Name>,
-    /// The local labels of the first block, and of those behind it.
+    /// The masks of entries, as local labels of a block that no statement is in.
+    pub(crate) masks: BTreeMap<Vec<u8>, Local>,
+    /// The local labels of the first block of statements, and of those behind it.
     pub(crate) first_block: BTreeMap<Vec<u8>, Local>,
     pub(crate) further_blocks: Vec<BTreeMap<Vec<u8>, Local>>,
-    /// The number of the current block, from 0.
+    /// The number of the current block: 0 for that of the masks, 1 for the first one of statements.
     pub(crate) block: usize,
     /// Whether another module may define a name that appears from here on.
     pub(crate) assumes_external: bool,
     pub ghost in_range: { (text : List ℕ) → ForSome (by_name numbers text) (λ i. i < length names.items) },
-    pub ghost in_block: { block ≤ length further_blocks.items },
+    pub ghost in_block: { block ≤ length further_blocks.items + 1 },
 }

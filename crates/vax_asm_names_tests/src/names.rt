@@ -88,13 +88,20 @@ fn keeps_local_labels_in_their_block(rt: HostRuntime) -> Result<(), Fail> {
     assert!(rt; table.local(b"10$") == None);
     assert!(rt; table.label_local(alloc, b"10$", 6)?.definition == 6);
     // The first block goes on, and what it gets stays in it.
+    assert!(rt; table.block() == 2);
+    table.go_back(1);
     assert!(rt; table.block() == 1);
-    table.go_back(0);
-    assert!(rt; table.block() == 0);
     assert!(rt; table.use_local(alloc, b"10$", 7)?.definition == 3);
     assert!(rt; table.label_local(alloc, b"30$", 7)?.definition == 7);
-    table.go_back(1);
+    table.go_back(2);
     assert!(rt; table.use_local(alloc, b"10$", 8)?.definition == 6);
     assert!(rt; table.local(b"30$") == None);
+    // The block of the masks is another one.
+    table.go_back(0);
+    assert!(rt; table.local(b"10$") == None);
+    assert!(rt; table.label_local(alloc, b"F", 9)?.definition == 9);
+    table.go_back(1);
+    assert!(rt; table.local(b"F") == None);
+    assert!(rt; table.local(b"30$").is_some());
     Ok(())
 }

@@ -6,6 +6,7 @@ const NOTHING_SAID: Attributes = Attributes {
     align: None,
     write: None,
     absolute: None,
+    overlaid: None,
 };
 
 #[test]
@@ -17,6 +18,7 @@ fn builds_sections(rt: HostRuntime) -> Result<(), Fail> {
         align: Some(2),
         write: Some(false),
         absolute: None,
+        overlaid: None,
     };
     layout.select(alloc, b"CODE", code)?;
     assert!(rt; layout.number() == 1);
@@ -33,6 +35,7 @@ fn builds_sections(rt: HostRuntime) -> Result<(), Fail> {
         align: Some(3),
         write: None,
         absolute: None,
+        overlaid: None,
     };
     assert!(rt; layout.select(alloc, b"CODE", other) == Err(Refusal::Conflict));
     layout.select(alloc, b"CODE", NOTHING_SAID)?;
@@ -78,6 +81,7 @@ fn counts_in_an_absolute_section(rt: HostRuntime) -> Result<(), Fail> {
         align: Some(2),
         write: None,
         absolute: Some(true),
+        overlaid: None,
     };
     layout.select(alloc, b"OFFSETS", absolute)?;
     layout.put(5, Piece::Zeros(5))?;
@@ -98,9 +102,46 @@ fn counts_in_an_absolute_section(rt: HostRuntime) -> Result<(), Fail> {
         align: None,
         write: None,
         absolute: Some(false),
+        overlaid: None,
     };
     assert!(rt; layout.select(alloc, b"OFFSETS", relative) == Err(Refusal::Conflict));
     layout.select(alloc, b"DATA", relative)?;
     assert!(rt; layout.select(alloc, b"DATA", absolute) == Err(Refusal::Conflict));
+    Ok(())
+}
+
+/// An overlaid section counts too and holds no data, but it is aligned. Of an absolute one `OVR` and `CON` say nothing.
+#[test]
+fn counts_in_an_overlaid_section(rt: HostRuntime) -> Result<(), Fail> {
+    let alloc = rt.alloc();
+    let mut layout: Layout<u8> = Layout::new(alloc)?;
+    let overlaid = Attributes {
+        overlaid: Some(true),
+        ..NOTHING_SAID
+    };
+    let apart = Attributes {
+        overlaid: Some(false),
+        ..NOTHING_SAID
+    };
+    layout.select(alloc, b"SHARED", overlaid)?;
+    layout.put(5, Piece::Zeros(5))?;
+    layout.align(3)?;
+    assert!(rt; layout.current().place() == 8);
+    assert!(rt; layout.current().size == 0);
+    assert!(rt; layout.current().align == 3);
+    assert!(rt; layout.current().only_counts());
+    assert!(rt; !layout.current().is_absolute());
+    assert!(rt; layout.put(1, Piece::Field(7)) == Err(Refusal::Absolute));
+    assert!(rt; layout.select(alloc, b"SHARED", apart) == Err(Refusal::Conflict));
+    let absolute = Attributes {
+        absolute: Some(true),
+        ..overlaid
+    };
+    assert!(rt; layout.select(alloc, b"SHARED", absolute) == Err(Refusal::Conflict));
+    layout.select(alloc, b"OFFSETS", absolute)?;
+    assert!(rt; layout.current().is_absolute());
+    layout.select(alloc, b"OFFSETS", apart)?;
+    layout.select(alloc, b"DATA", NOTHING_SAID)?;
+    assert!(rt; layout.select(alloc, b"DATA", overlaid) == Err(Refusal::Conflict));
     Ok(())
 }

@@ -89,7 +89,7 @@ mean_here_in here s r =
     let longer : length (with_source (length s.sources) (Given here) (s.sources ++ ToCome ∷ [])) ≡ length s.sources + 1 = length_with_source (length s.sources) (Given here) (s.sources ++ ToCome ∷ []) ∙ length_push s.sources ToCome in
     (range_grows s.names (length s.sources) (length (with_source (length s.sources) (Given here) (s.sources ++ ToCome ∷ []))) r (omega (arith, longer)), omega (arith, longer))
 
-mean_local_in : (text : List ℕ) (s : Scope) (o : Option Local) → table.locals_of s.names text ≡ o → IsInRange s → MeansOne (mean_local text s o)
+pub mean_local_in : (text : List ℕ) (s : Scope) (o : Option Local) → table.locals_of s.names text ≡ o → IsInRange s → MeansOne (mean_local text s o)
 mean_local_in text s (Some l) is r = (r, current_in s.names (length s.sources) r text l is)
 mean_local_in text s None is r =
     let longer : length (s.sources ++ ToCome ∷ []) ≡ length s.sources + 1 = length_push s.sources ToCome in
@@ -289,7 +289,8 @@ nothing_in = record {
   numbers = λ t i e. absurd cc;
   all = λ i d h. absurd (omega (arith, h));
   block = omega arith;
-  blocks = All-cons (AreIn 0) table.no_locals [] (λ t l e. absurd cc) (All-nil (AreIn 0));
+  blocks = All-cons (AreIn 0) table.no_locals (table.no_locals ∷ []) (λ t l e. absurd cc)
+      (All-cons (AreIn 0) table.no_locals [] (λ t l e. absurd cc) (All-nil (AreIn 0)));
 }
 
 -- each call leaves names in range
@@ -301,6 +302,9 @@ block_is_in s t r is = subst IsInRange (sym is) (block_in s r)
 
 pub back_is_in : (i : ℕ) (s t : Scope) → IsInRange s → t ≡ in_block i s → IsInRange t
 back_is_in i s t r is = subst IsInRange (sym is) (back_in i s r)
+
+pub local_is_in : (text : List ℕ) (s t : Scope) → IsInRange s → t ≡ (mean_local text s (table.locals_of s.names text)).scope → IsInRange t
+local_is_in text s t r is = subst IsInRange (sym is) (mean_local_in text s (table.locals_of s.names text) refl r).0
 
 pub linked_is_in : (linkage : Linkage) (text : List ℕ) (s t : Scope) → IsInRange s → t ≡ linked linkage text s → IsInRange t
 linked_is_in linkage text s t r is = subst IsInRange (sym is) (linked_in linkage text s r)

@@ -1,5 +1,6 @@
 pub mod Kept
 pub mod Known
+pub mod Masks
 pub mod PlaceView
 pub mod RangeProps
 pub mod Scope

@@ -6,6 +6,7 @@
 #![tactic(auto)]
 
 mod known;
+mod masks;
 mod place;
 mod scope;
 mod tables;

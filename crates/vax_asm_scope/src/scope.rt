@@ -4,6 +4,7 @@ ghost use Rattle.vax_asm_scope.specs.Scope.{IsInRange};
 ghost use Rattle.vax_asm_scope.specs.View.{scope_in};
 ghost use Rattle.vax_asm_scope.specs.RangeProps.{range_prop};
 
+use crate::masks::{add_meaning, masked_tokens, shared};
 use crate::tables::Tables;
 use std::alloc::Global;
 use std::mem;
@@ -27,9 +28,11 @@ impl Scope {
     ghost use Rattle.std.specs.Prelude.{◌≡◌, All, IfOk, OnOk, length, map};
     ghost use Rattle.vax_lex.specs.Grammar.{symbols_of, spelling, Expression as Tree};
     ghost use Rattle.vax_lex.specs.Tokens.{IsTokenOf};
+    ghost use Rattle.vax_lex.specs.declared.token.TokenKind.TheVariants.{Name as NameKind};
     ghost use Rattle.vax_asm_names.specs.View.{name_of};
     ghost use Rattle.vax_asm_scope.specs.Kept.{scope_of};
     ghost use Rattle.vax_asm_scope.specs.Known.{known};
+    ghost use Rattle.vax_asm_scope.specs.Masks.{local_meant, masked};
     ghost use Rattle.vax_asm_scope.specs.Scope.{nothing, entry, definition_at, definition_of, bound, labelled, assigned, labelled_locally, begun_block, in_block, linked, assuming, misses, external_names, closed};
     ghost use Rattle.vax_asm_scope.specs.Used.{names_of};
     ghost use Rattle.vax_asm_scope.specs.View.{Defines, Labels, texts_of};
@@ -146,6 +149,51 @@ impl Scope {
         let line = Rc::clone(line).map_err(|_| NoMemory)?;
         *self = Scope { tables };
         Ok(Expression::new(dialect, line, own, names))
+    }
+
+    /// An expression as [`Scope::expression`] has it, OR-ed with the mask that a definition is, or that mask alone where there are no tokens. The
+    /// token `key` stands for the mask, with a name that the expression doesn't use.
+    pub fn masked_expression(
+        &mut self,
+        alloc: Global,
+        dialect: Dialect,
+        line: &Rc<Vec<u8>>,
+        tokens: &[Token],
+        here: Value,
+        key: Token,
+        definition: usize,
+    ) -> Result<Expression, NoMemory>
+        requires tokens { All (IsTokenOf line.now.value.items) tokens.now }
+        requires key { IsTokenOf line.now.value.items key }
+        requires kind { key.kind ≡ NameKind }
+        ensures expression { IfOk result (λ e. written_of e
+            ≡ masked dialect line.now.value.items tokens.now key definition
+            (bound here (symbols_of line.now.value.items tokens.now) (scope_of self.old)).names) }
+        ensures scope { OnOk result (scope_of self.new
+            ≡ (bound here (symbols_of line.now.value.items tokens.now) (scope_of self.old)).scope) }
+    {
+        let Scope { tables, .. } = mem::replace(self, Scope::new(alloc));
+        let mut tables = tables;
+        let mut names = tables.bind_tokens(alloc, line, tokens, here)?;
+        add_meaning(alloc, &mut names, line, key, definition)?;
+        let own = masked_tokens(alloc, tokens, key)?;
+        let line = shared(line)?;
+        *self = Scope { tables };
+        Ok(Expression::new(dialect, line, own, names))
+    }
+
+    /// The definition that a local label means in its block.
+    pub(crate) fn local_definition(&mut self, alloc: Global, text: &[u8]) -> Result<usize, NoMemory>
+        ensures definition { IfOk result
+            (λ d. d ≡ (local_meant text.now (scope_of self.old)).definition) }
+        ensures scope { OnOk result
+            (scope_of self.new ≡ (local_meant text.now (scope_of self.old)).scope) }
+    {
+        let Scope { tables, .. } = mem::replace(self, Scope::new(alloc));
+        let mut tables = tables;
+        let definition = tables.local_meaning(alloc, text)?;
+        *self = Scope { tables };
+        Ok(definition)
     }
 
     /// A label defines a name.

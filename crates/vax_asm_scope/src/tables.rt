@@ -197,7 +197,7 @@ impl Tables {
     }
 
     /// What a local label means.
-    fn local_meaning(&mut self, alloc: Global, text: &[u8]) -> Result<usize, NoMemory>
+    pub(crate) fn local_meaning(&mut self, alloc: Global, text: &[u8]) -> Result<usize, NoMemory>
         ensures definition { IfOk result (λ d. d ≡ (mean_local text.now (scope_in self.old)
             (locals_of (scope_in self.old).names text.now)).definition) }
         ensures scope { OnOk result (scope_in self.new ≡ (mean_local text.now (scope_in self.old)

@@ -5,7 +5,7 @@ use Rattle.vax_asm_encode.specs.Fields.{filled}
 use Rattle.vax_asm_encode.specs.declared.filling.Filled.{Filled}
 use Rattle.vax_asm_encode.specs.declared.filling.FieldFault.{FieldFault}
 use Rattle.vax_asm_encode.specs.declared.operand.Field.{Field}
-use Rattle.vax_asm_sections.specs.Layout.{Part, Zeros, Bytes, Field as Filled_later, Section as Building}
+use Rattle.vax_asm_sections.specs.Layout.{Part, Zeros, Bytes, Field as Filled_later, Section as Building, place_in}
 use Rattle.vax_lex.specs.declared.value.Value.{Value}
 use Rattle.vax_lex.specs.declared.value.Value.TheVariants as value
 use Rattle.vax_macro.specs.declared.error.FaultKind.{FaultKind}
@@ -96,8 +96,12 @@ pub record Laid : Type 0 where
   pub relocs : List Reloc
   pub faults : List Fault
 
+-- how many bytes a section lays over others of its name
+abbrev pub storage_of : Building Fixup → ℕ
+storage_of s = if s.overlaid then place_in s else 0
+
 abbrev pub section_of : Building Fixup → List ℕ → Section
-section_of s bytes = record { name = s.name; align = 2 ^ s.align; write = s.write; bytes = bytes }
+section_of s bytes = record { name = s.name; align = 2 ^ s.align; write = s.write; bytes = bytes; storage = storage_of s }
 
 abbrev pub laid_behind : Building Fixup → Output → Laid → Laid
 laid_behind s o l = record { sections = section_of s o.bytes ∷ l.sections; relocs = o.relocs ++ l.relocs; faults = o.faults ++ l.faults }

@@ -3,7 +3,7 @@
 ghost use Rattle.std.specs.Prelude.{◌≡◌, ◌<◌, ◌+◌, ◌^◌, ◌++◌, ◌∷◌, [], IfOk, OnOk, length, replicate};
 ghost use Rattle.vax_asm_second.specs.Contents.{before_field};
 ghost use Rattle.vax_asm_second.specs.Faults.{first, first_of, fault_at};
-ghost use Rattle.vax_asm_second.specs.Laid.{linked, fixed, output, outputs, laid, section_of as laid_section};
+ghost use Rattle.vax_asm_second.specs.Laid.{linked, fixed, output, outputs, laid, section_of as laid_section, storage_of};
 ghost use Rattle.vax_asm_second.specs.View.{known_of, seen_part, seen_parts, seen_section, seen_sections};
 ghost use Rattle.vax_asm_first.specs.View.{fixup_of};
 
@@ -60,6 +60,17 @@ fn add_section(list: &mut Vec<Section>, section: Section) -> Result<(), NoMemory
     ensures { OnOk result (list.new.items ≡ list.old.items ++ section ∷ []) }
 {
     list.push(section).map_err(|_| NoMemory)
+}
+
+/// How many bytes a section lays over others of its name.
+fn storage_of(building: &Building<Fixup>) -> u32
+    ensures { result ≡ storage_of (seen_section building.now) }
+{
+    if building.overlaid {
+        building.place()
+    } else {
+        0
+    }
 }
 
 impl Found {
@@ -214,6 +225,7 @@ impl Found {
             align: 1 << building.align,
             write: building.write,
             bytes: Bytes::from(bytes),
+            storage: storage_of(building),
         })
     }
 

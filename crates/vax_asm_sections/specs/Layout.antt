@@ -1,5 +1,5 @@
 -- The sections of a module while it is assembled (VAX MACRO and Instruction Set Reference Manual, `.PSECT` and `.ALIGN`).
-use Rattle.std.specs.Prelude.{ℕ, ◌+◌, ◌-◌, ◌%◌, ◌^◌, max, Bool, true, false, ◌||◌, ◌==◌, nat_lt, if◌then◌else◌, List, [], ◌∷◌, ◌++◌, length, slice_index_or, slice_set, Option, Some, None, Result, Ok, Err, is_some, unwrap_or, not}
+use Rattle.std.specs.Prelude.{ℕ, ◌+◌, ◌-◌, ◌%◌, ◌^◌, max, Bool, true, false, ◌&&◌, ◌||◌, ◌==◌, nat_lt, if◌then◌else◌, List, [], ◌∷◌, ◌++◌, length, slice_index_or, slice_set, Option, Some, None, Result, Ok, Err, is_some, unwrap_or, not}
 use Rattle.std.specs.Str.{bytes_eq}
 use Rattle.vax_asm_sections.specs.declared.types.Refusal.{Refusal}
 use Rattle.vax_asm_sections.specs.declared.types.Refusal.TheVariants.{Absolute, Conflict, TooLong}
@@ -12,8 +12,8 @@ pub data Part (F : Type 0) : Type 0 where
   Field : F → Part F
 
 -- A section: its name, the power of two and the protection that its first `.PSECT` said or left, the power of two that it is
--- aligned to, its size in bytes, what it holds, and where the next statement goes in it where it is absolute. An absolute section
--- has no bytes: it only counts, from 0 on.
+-- aligned to, its size in bytes, what it holds, where the next statement goes in it where it only counts, and whether it is
+-- overlaid. An absolute or overlaid section has no bytes: it only counts, from 0 on.
 pub record Section (F : Type 0) : Type 0 where
   pub name : List ℕ
   pub declared : ℕ
@@ -21,7 +21,8 @@ pub record Section (F : Type 0) : Type 0 where
   pub align : ℕ
   pub size : ℕ
   pub parts : List (Part F)
-  pub absolute : Option ℕ
+  pub counter : Option ℕ
+  pub overlaid : Bool
 
 -- the sections, which of them the next statement goes into, and the size of all
 pub record Sections (F : Type 0) : Type 0 where
@@ -40,10 +41,17 @@ abbrev pub alignment : Bool → ℕ → ℕ
 alignment true k = 0
 alignment false k = k
 
-abbrev pub start_of : Bool → Option ℕ
+abbrev pub only_counts : {F : Type 0} → Section F → Bool
+only_counts s = is_some s.counter
+
+abbrev pub is_absolute : {F : Type 0} → Section F → Bool
+is_absolute s = is_some s.counter && not s.overlaid
+
+abbrev pub start_of : (counts : Bool) → Option ℕ
 start_of true = Some 0
 start_of false = None
 
+-- What is overlaid is laid from the begin of the section of its name on. An absolute section is never overlaid.
 abbrev pub made : {F : Type 0} → List ℕ → Attributes → Section F
 made name attributes = record {
   name = name;
@@ -52,12 +60,13 @@ made name attributes = record {
   align = alignment (unwrap_or attributes.absolute false) (unwrap_or attributes.align 0);
   size = 0;
   parts = [];
-  absolute = start_of (unwrap_or attributes.absolute false);
+  counter = start_of (unwrap_or attributes.absolute false || unwrap_or attributes.overlaid false);
+  overlaid = not (unwrap_or attributes.absolute false) && unwrap_or attributes.overlaid false;
 }
 
 -- the section that has no name, before the first `.PSECT`
 abbrev pub unnamed : {F : Type 0} → Section F
-unnamed = record { name = []; declared = 0; write = true; align = 0; size = 0; parts = []; absolute = None }
+unnamed = record { name = []; declared = 0; write = true; align = 0; size = 0; parts = []; counter = None; overlaid = false }
 
 abbrev pub at_first : {F : Type 0} → Sections F
 at_first = record { all = unnamed ∷ []; current = 0; total = 0 }
@@ -67,21 +76,21 @@ current_of s = slice_index_or s.all s.current unnamed
 
 -- where the next statement goes in a section
 abbrev pub place_in : {F : Type 0} → Section F → ℕ
-place_in s = unwrap_or s.absolute s.size
+place_in s = unwrap_or s.counter s.size
 
--- a section with so many bytes more; one that is absolute counts them
+-- a section with so many bytes more, which may only count them
 abbrev pub longer_by : {F : Type 0} → Option ℕ → ℕ → Part F → Section F → Section F
-longer_by (Some at) n part s = record s { absolute = Some (at + n) }
+longer_by (Some at) n part s = record s { counter = Some (at + n) }
 longer_by None n part s = record s { size = s.size + n; parts = s.parts ++ part ∷ [] }
 
 abbrev pub longer : {F : Type 0} → ℕ → Part F → Section F → Section F
-longer n part s = longer_by s.absolute n part s
+longer n part s = longer_by s.counter n part s
 
--- an absolute section holds no data
+-- a section that only counts holds no data
 abbrev pub refuses : {F : Type 0} → Section F → Part F → Bool
 refuses s (Zeros n) = false
-refuses s (Bytes bytes) = is_some s.absolute
-refuses s (Field f) = is_some s.absolute
+refuses s (Bytes bytes) = only_counts s
+refuses s (Field f) = only_counts s
 
 abbrev pub exceeds : (size total more : ℕ) → Bool
 exceeds size total more = nat_lt section_limit (size + more) || nat_lt module_limit (total + more)
@@ -101,7 +110,7 @@ abbrev pub gap : ℕ → ℕ → ℕ
 gap size boundary = (boundary - size % boundary) % boundary
 
 abbrev pub raised : {F : Type 0} → ℕ → Section F → Section F
-raised k s = record s { align = alignment (is_some s.absolute) (max s.align k) }
+raised k s = record s { align = alignment (is_absolute s) (max s.align k) }
 
 abbrev pub with_raised : {F : Type 0} → ℕ → Sections F → Sections F
 with_raised k s = record s { all = slice_set s.all s.current (raised k (current_of s)) }
@@ -123,9 +132,16 @@ says_otherwise (Some true) before = not before
 says_otherwise (Some false) before = before
 says_otherwise None before = false
 
+-- of an absolute section nothing is said by it
+abbrev pub overlays_otherwise : (absolute : Bool) → Option Bool → Bool → Bool
+overlays_otherwise absolute said before = not absolute && says_otherwise said before
+
 -- a later `.PSECT` may not say otherwise
 abbrev pub conflicts : {F : Type 0} → Attributes → Section F → Bool
-conflicts attributes s = differs attributes.align s.declared || (says_otherwise attributes.write s.write || says_otherwise attributes.absolute (is_some s.absolute))
+conflicts attributes s =
+    differs attributes.align s.declared
+    || (says_otherwise attributes.write s.write
+    || (says_otherwise attributes.absolute (is_absolute s) || overlays_otherwise (is_absolute s) attributes.overlaid s.overlaid))
 
 abbrev pub gone_back : {F : Type 0} → Attributes → Sections F → ℕ → Result (Sections F) Refusal
 gone_back attributes s i = if conflicts attributes (slice_index_or s.all i unnamed) then Err Conflict else Ok (record s { current = i })

@@ -14,7 +14,7 @@ part_of (piece.Bytes v) = Bytes v.items
 part_of (piece.Field f) = Field f
 
 abbrev pub section_of : {F : Type 0} → Building F → Section F
-section_of b = record { name = b.name.items; declared = b.declared; write = b.write; align = b.align; size = b.size; parts = map part_of b.pieces.items; absolute = b.absolute }
+section_of b = record { name = b.name.items; declared = b.declared; write = b.write; align = b.align; size = b.size; parts = map part_of b.pieces.items; counter = b.counter; overlaid = b.overlaid }
 
 abbrev pub sections_of : {F : Type 0} → Layout F → Sections F
 sections_of l = record { all = map section_of l.sections.items; current = l.current; total = l.total }

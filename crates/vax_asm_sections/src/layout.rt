@@ -2,7 +2,7 @@
 
 ghost use Rattle.std.specs.Prelude.{◌≡◌, ◌<◌, ◌≤◌, ◌+◌, ◌^◌, IfOk, OnOk, OnErr, IfSome, None, Some, length, map};
 ghost use Rattle.vax_asm_names.specs.ByName.{by_name, with_entry};
-ghost use Rattle.vax_asm_sections.specs.Layout.{gap, alignment, differs, says_otherwise, conflicts, exceeds, longer, place_in, raised, refuses, start_of, at_first, current_of, with_part, with_raised, put, aligned, numbered, made, gone_back, begun, selected};
+ghost use Rattle.vax_asm_sections.specs.Layout.{gap, alignment, differs, says_otherwise, overlays_otherwise, conflicts, exceeds, longer, place_in, raised, refuses, start_of, is_absolute, only_counts, at_first, current_of, with_part, with_raised, put, aligned, numbered, made, gone_back, begun, selected};
 ghost use Rattle.vax_asm_sections.specs.View.{part_of, section_of, sections_of, Leaves};
 
 use crate::types::{Attributes, Building, Layout, Piece, Refusal};
@@ -52,12 +52,20 @@ fn says_otherwise(said: Option<bool>, before: bool) -> bool
     }
 }
 
+/// Of an absolute section nothing is said by it.
+fn overlays_otherwise(absolute: bool, said: Option<bool>, before: bool) -> bool
+    ensures { result ≡ overlays_otherwise absolute said before }
+{
+    !absolute && says_otherwise(said, before)
+}
+
 fn conflicts<F>(attributes: Attributes, section: &Building<F>) -> bool
     ensures { result ≡ conflicts attributes (section_of section.now) }
 {
     differs(attributes.align, section.declared)
         || says_otherwise(attributes.write, section.write)
-        || says_otherwise(attributes.absolute, section.absolute.is_some())
+        || says_otherwise(attributes.absolute, section.is_absolute())
+        || overlays_otherwise(section.is_absolute(), attributes.overlaid, section.overlaid)
 }
 
 /// An absolute section is at address 0, wherever others come to stand.
@@ -67,10 +75,11 @@ fn alignment(absolute: bool, align: u8) -> u8
     if absolute { 0 } else { align }
 }
 
-fn start_of(absolute: bool) -> Option<u32>
-    ensures { result ≡ start_of absolute }
+/// A section that only counts begins at 0.
+fn start_of(counts: bool) -> Option<u32>
+    ensures { result ≡ start_of counts }
 {
-    if absolute { Some(0) } else { None }
+    if counts { Some(0) } else { None }
 }
 
 fn is_too_long(size: u32, total: u32, more: u32) -> bool
@@ -86,10 +95,24 @@ impl<F> Building<F> {
         ensures place { result ≡ place_in (section_of self.now) }
         ensures near { result ≤ 1048576 }
     {
-        match self.absolute {
+        match self.counter {
             Some(at) => at,
             None => self.size,
         }
+    }
+
+    /// Whether it only counts, as an absolute or an overlaid section does.
+    pub fn only_counts(&self) -> bool
+        ensures { result ≡ only_counts (section_of self.now) }
+    {
+        self.counter.is_some()
+    }
+
+    /// Whether it is absolute.
+    pub fn is_absolute(&self) -> bool
+        ensures { result ≡ is_absolute (section_of self.now) }
+    {
+        self.counter.is_some() && !self.overlaid
     }
 
     /// Whether it holds no such data.
@@ -98,7 +121,7 @@ impl<F> Building<F> {
     {
         match piece {
             Piece::Zeros(_) => false,
-            Piece::Bytes(_) | Piece::Field(_) => self.absolute.is_some(),
+            Piece::Bytes(_) | Piece::Field(_) => self.only_counts(),
         }
     }
 
@@ -110,8 +133,8 @@ impl<F> Building<F> {
             ≡ longer more (part_of piece) (section_of self.old)) }
         ensures named { self.new.name ≡ self.old.name }
     {
-        if let Some(at) = self.absolute {
-            self.absolute = Some(at + more);
+        if let Some(at) = self.counter {
+            self.counter = Some(at + more);
             return Ok(());
         }
         self.pieces.push(piece)?;
@@ -123,7 +146,7 @@ impl<F> Building<F> {
         requires { align ≤ 9 }
         ensures { section_of self.new ≡ raised align (section_of self.old) }
     {
-        self.align = alignment(self.absolute.is_some(), self.align.max(align));
+        self.align = alignment(self.is_absolute(), self.align.max(align));
     }
 }
 
@@ -133,6 +156,7 @@ fn made<F>(alloc: Global, name: Vec<u8>, attributes: Attributes) -> Building<F>
 {
     let declared = attributes.align.unwrap_or(0);
     let absolute = attributes.absolute.unwrap_or(false);
+    let overlaid = attributes.overlaid.unwrap_or(false);
     Building {
         name,
         declared,
@@ -140,7 +164,8 @@ fn made<F>(alloc: Global, name: Vec<u8>, attributes: Attributes) -> Building<F>
         align: alignment(absolute, declared),
         size: 0,
         pieces: Vec::new(alloc),
-        absolute: start_of(absolute),
+        counter: start_of(absolute || overlaid),
+        overlaid: !absolute && overlaid,
     }
 }
 
@@ -180,7 +205,8 @@ impl<F> Layout<F> {
             align: 0,
             size: 0,
             pieces: Vec::new(alloc),
-            absolute: None,
+            counter: None,
+            overlaid: false,
         };
         let mut numbers = BTreeMap::new(alloc);
         add_number(alloc, &mut numbers, &[], 0)?;
@@ -238,7 +264,7 @@ impl<F> Layout<F> {
 
     /// Adds so many bytes to the section that the next statement goes into.
     ///
-    /// [`Refusal::Absolute`] where that is absolute and the bytes aren't zeros alone, [`Refusal::TooLong`] where the section or the module would be too long, [`Refusal::NoMemory`] where memory is
+    /// [`Refusal::Absolute`] where that only counts and the bytes aren't zeros alone, [`Refusal::TooLong`] where the section or the module would be too long, [`Refusal::NoMemory`] where memory is
     /// refused; the sections are then as before.
     #[tactic(auto, unfolding(crate::specs::Layout::put))]
     pub fn put(&mut self, more: u32, piece: Piece<F>) -> Result<(), Refusal>
@@ -317,8 +343,8 @@ impl<F> Layout<F> {
 
     /// `.PSECT`: chooses the section with this name, which begins if there is none.
     ///
-    /// [`Refusal::Conflict`] where the section was first said to have another alignment or protection, or to be absolute or not,
-    /// [`Refusal::NoMemory`] where memory is refused; the sections are then as before.
+    /// [`Refusal::Conflict`] where the section was first said to have another alignment or protection, or to be absolute or not, or
+    /// overlaid or not, [`Refusal::NoMemory`] where memory is refused; the sections are then as before.
     #[tactic(auto, unfolding(crate::specs::Layout::selected))]
     pub fn select(
         &mut self,

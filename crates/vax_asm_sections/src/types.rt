@@ -17,12 +17,14 @@ pub enum Piece<F> {
     Field(F),
 }
 
-/// What a `.PSECT` says: the power of two to align to, whether the section may be written, and whether it is absolute.
+/// What a `.PSECT` says: the power of two to align to, whether the section may be written, whether it is absolute, and whether
+/// it is overlaid.
 #[derive(Clone, Copy, PartialEq, Eq)]
 pub struct Attributes {
     pub align: Option<u8>,
     pub write: Option<bool>,
     pub absolute: Option<bool>,
+    pub overlaid: Option<bool>,
 }
 
 /// A section that is being built.
@@ -38,21 +40,24 @@ pub struct Building<F> {
     /// Its size in bytes, at most 1,048,576.
     pub size: u32,
     pub pieces: Vec<Piece<F>>,
-    /// Where the next statement goes where the section is absolute, at most 1,048,576. It has no bytes then.
-    pub absolute: Option<u32>,
+    /// Where the next statement goes in a section that only counts, an absolute or an overlaid one, at most 1,048,576. It has no
+    /// bytes then.
+    pub counter: Option<u32>,
+    /// Whether it is overlaid, which an absolute one never is.
+    pub overlaid: bool,
     pub ghost aligned: { align ≤ 9 },
     pub ghost short: { size ≤ 1048576 },
-    pub ghost near: { unwrap_or absolute 0 ≤ 1048576 },
+    pub ghost near: { unwrap_or counter 0 ≤ 1048576 },
 }
 
 /// Why a section can't be chosen or grow.
 #[derive(Clone, Copy, Debug, PartialEq, Eq, Error)]
 pub enum Refusal {
     /// A `.PSECT` says otherwise than the section's first.
-    #[error("the section has another alignment or protection, or is absolute where it wasn't")]
+    #[error("the section has another alignment or protection, or is absolute or overlaid where it wasn't")]
     Conflict,
-    /// Data in an absolute section.
-    #[error("an absolute section holds no data")]
+    /// Data in an absolute or overlaid section.
+    #[error("an absolute or overlaid section holds no data")]
     Absolute,
     /// A section would be longer than 1,048,576 bytes, or all together than 16,777,216.
     #[error("a section or a module is too long")]

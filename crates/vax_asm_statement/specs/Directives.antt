@@ -6,10 +6,10 @@ use Rattle.vax_dialect.specs.declared.Dialect.{Dialect}
 use Rattle.vax_word.specs.declared.Size.TheVariants as size
 use Rattle.vax_asm_encode.specs.declared.operand.DataKind.TheVariants.{Number, Signed, Octaword}
 use Rattle.vax_asm_statement.specs.declared.directives.Directive.{Directive}
-use Rattle.vax_asm_statement.specs.declared.directives.Directive.TheVariants.{Section, Entry, Data, Address, Text, CountedText, ZeroText, DescribedText, Space, Reference, Align, Even, Odd, Global, Weak, External, Enable, Disable, Default, Save, Restore, Listing, OperandType, Error, End}
+use Rattle.vax_asm_statement.specs.declared.directives.Directive.TheVariants.{Section, Entry, Data, Address, Text, CountedText, ZeroText, DescribedText, Space, Reference, Align, Even, Odd, Global, Weak, External, Enable, Disable, Default, Save, Restore, Listing, OperandType, Mask, Error, End}
 use Rattle.vax_asm_statement.specs.declared.directives.Named.{Named}
 use Rattle.vax_asm_statement.specs.declared.directives.Attribute.{Attribute}
-use Rattle.vax_asm_statement.specs.declared.directives.Attribute.TheVariants.{Align as AlignTo, Write, Absolute, Ignored}
+use Rattle.vax_asm_statement.specs.declared.directives.Attribute.TheVariants.{Align as AlignTo, Write, Absolute, Overlaid, Ignored}
 use Rattle.vax_asm_statement.specs.declared.directives.NamedAttribute.{NamedAttribute}
 
 abbrev pub directives : List (List ℕ × Directive)
@@ -65,6 +65,7 @@ further_directives =
     ∷ (codes ".REF4", Reference size.L)
     ∷ (codes ".REF8", Reference size.Q)
     ∷ (codes ".NTYPE", OperandType)
+    ∷ (codes ".MASK", Mask)
     ∷ (codes ".ODD", Odd)
     ∷ (codes ".WEAK", Weak)
     ∷ (codes ".ENABLE", Enable)
@@ -121,7 +122,7 @@ attributes =
     ∷ (codes "RD", Ignored)
     ∷ (codes "SHR", Ignored)
     ∷ (codes "NOSHR", Ignored)
-    ∷ (codes "CON", Ignored)
+    ∷ (codes "CON", Overlaid false)
     ∷ (codes "REL", Absolute false)
     ∷ (codes "LCL", Ignored)
     ∷ (codes "GBL", Ignored)

@@ -59,6 +59,8 @@ pub enum Directive {
     Listing,
     /// `.NTYPE`: a name is assigned how an operand is addressed.
     OperandType,
+    /// `.MASK`: a word that holds the mask of an entry.
+    Mask,
     /// `.ERROR`: the source is wrong here.
     Error,
     /// `.END`: where the program begins.
@@ -116,7 +118,7 @@ fn all_directives() -> &'static [Named; 33]
 
 /// Those of one dialect alone.
 #[rattlefmt::skip]
-static FURTHER_DIRECTIVES: [Named; 33] = [
+static FURTHER_DIRECTIVES: [Named; 34] = [
     Named { name: ".ASCID", directive: Directive::DescribedText },
     Named { name: ".OCTA", directive: Directive::Data(DataKind::Octaword) },
     Named { name: ".BLKO", directive: Directive::Space(DataKind::Octaword) },
@@ -129,6 +131,7 @@ static FURTHER_DIRECTIVES: [Named; 33] = [
     Named { name: ".REF4", directive: Directive::Reference(Size::L) },
     Named { name: ".REF8", directive: Directive::Reference(Size::Q) },
     Named { name: ".NTYPE", directive: Directive::OperandType },
+    Named { name: ".MASK", directive: Directive::Mask },
     Named { name: ".ODD", directive: Directive::Odd },
     Named { name: ".WEAK", directive: Directive::Weak },
     Named { name: ".ENABLE", directive: Directive::Enable },
@@ -152,7 +155,7 @@ static FURTHER_DIRECTIVES: [Named; 33] = [
     Named { name: ".ERROR", directive: Directive::Error },
 ];
 
-fn all_further_directives() -> &'static [Named; 33]
+fn all_further_directives() -> &'static [Named; 34]
     ensures { map named result.now ≡ further_directives }
 {
     &FURTHER_DIRECTIVES
@@ -215,6 +218,8 @@ pub enum Attribute {
     Write(bool),
     /// `ABS`, `REL`: whether it is absolute.
     Absolute(bool),
+    /// `OVR`, `CON`: whether it is overlaid.
+    Overlaid(bool),
     /// It is read, and changes nothing.
     Ignored,
 }
@@ -241,7 +246,7 @@ static ATTRIBUTES: [NamedAttribute; 21] = [
     NamedAttribute { name: "RD", attribute: Attribute::Ignored },
     NamedAttribute { name: "SHR", attribute: Attribute::Ignored },
     NamedAttribute { name: "NOSHR", attribute: Attribute::Ignored },
-    NamedAttribute { name: "CON", attribute: Attribute::Ignored },
+    NamedAttribute { name: "CON", attribute: Attribute::Overlaid(false) },
     NamedAttribute { name: "REL", attribute: Attribute::Absolute(false) },
     NamedAttribute { name: "LCL", attribute: Attribute::Ignored },
     NamedAttribute { name: "GBL", attribute: Attribute::Ignored },

@@ -89,3 +89,23 @@ fn all_faults_are_listed(rt: HostRuntime) -> Result<(), Fail> {
     }
     Ok(())
 }
+
+#[test]
+fn messages_of_a_source_are_given(rt: HostRuntime) -> Result<(), Fail> {
+    let alloc = rt.alloc();
+    let source =
+        b"A: .PRINT ; one\nB:: .warn\n.WARN: NOP\n.PRINT = 5\nA: .WARN ; no\n NOP R1\n .PRINT ; two\n";
+    let given = messages(alloc, Dialect::Vms, source)?;
+    let wanted = [
+        (1, Tone::Note, b"A: .PRINT ; one".as_slice()),
+        (2, Tone::Warning, b"B:: .warn".as_slice()),
+        (7, Tone::Note, b" .PRINT ; two".as_slice()),
+    ];
+    assert!(rt; given.len() == wanted.len());
+    for (message, (line, tone, text)) in given.iter().zip(&wanted) {
+        assert!(rt; message.origin.line == *line && message.tone == *tone);
+        assert!(rt; message.text.as_slice() == *text);
+    }
+    assert!(rt; messages(alloc, Dialect::Vax, source)?.is_empty());
+    Ok(())
+}

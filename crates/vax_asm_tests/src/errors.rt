@@ -97,9 +97,12 @@ fn tells_errors_of_modules(rt: HostRuntime) -> Result<(), Fail> {
     let sections = [
         (
             Refusal::Conflict,
-            "the section has another alignment or protection, or is absolute where it wasn't",
+            "the section has another alignment or protection, or is absolute or overlaid where it wasn't",
         ),
-        (Refusal::Absolute, "an absolute section holds no data"),
+        (
+            Refusal::Absolute,
+            "an absolute or overlaid section holds no data",
+        ),
         (Refusal::TooLong, "a section or a module is too long"),
         (Refusal::NoMemory, "out of memory"),
     ];

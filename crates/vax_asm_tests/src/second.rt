@@ -166,6 +166,7 @@ fn put_operands(standing: &mut Standing, alloc: Global) -> Result<(), Fail> {
         align: Some(2),
         write: Some(false),
         absolute: None,
+        overlaid: None,
     };
     standing.layout.select(alloc, b"CODE", attributes)?;
     let relative = Operand::Memory(Base::Relative(Narrow::L));

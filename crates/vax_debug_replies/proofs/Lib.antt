@@ -1,3 +1,4 @@
 pub mod Cells
 pub mod Naming
 pub mod Telling
+pub mod Pushing

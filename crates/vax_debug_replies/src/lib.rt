@@ -15,7 +15,7 @@ mod stops;
 mod values;
 mod watches;
 
-pub use crate::frames::{Frame, push_frame};
+pub use crate::frames::{Frame, SavedRegister, push_arguments_line, push_frame, push_saved_line};
 pub use crate::help::{write_breaks, write_help, write_refusal};
 pub use crate::instructions::{push_instruction_line, push_listed_instruction, span_of};
 pub use crate::pages::{PageState, push_frames_line, push_missed_line, push_page_line};

@@ -1,6 +1,6 @@
 -- The symbols and the source lines of a program's files: what the names of its sources stand for in the program that they are linked to, and where their
 -- statements lie there.
-use Rattle.std.specs.Prelude.{◌≡◌, ◌⊎◌, ℕ, ◌+◌, nat_lt, Bool, true, false, if◌then◌else◌, List, [], ◌∷◌, ◌++◌, length, take, drop, slice_index, Option, None, Some}
+use Rattle.std.specs.Prelude.{◌≡◌, ◌⊎◌, ℕ, ◌+◌, nat_lt, Bool, true, false, not, ◌&&◌, if◌then◌else◌, List, [], ◌∷◌, ◌++◌, length, take, drop, slice_index, Option, None, Some}
 use Rattle.std.specs.List.{flat_map}
 use Rattle.vax_dialect.specs.declared.Dialect.{Dialect}
 use Rattle.vax_lex.specs.declared.value.Value.{Value}
@@ -58,9 +58,9 @@ line_of places file row = record {
   text = row.text;
 }
 
--- one without bytes is no line
+-- one without bytes is no line; so is none in a section that only counts
 unfoldable pub lines_of : (places : List ℕ) → (file : ℕ) → Row → List SourceLine
-lines_of places file row = if nat_lt row.begin row.end then line_of places file row ∷ [] else []
+lines_of places file row = if not row.counts && nat_lt row.begin row.end then line_of places file row ∷ [] else []
 
 -- the statements of a module, as its listing has them
 abbrev pub lines_in : (places : List ℕ) → (file : ℕ) → List Row → List SourceLine

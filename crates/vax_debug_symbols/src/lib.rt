@@ -157,7 +157,7 @@ fn push_line(
     ensures { OnOk result (lines.new.items
         ≡ lines.old.items ++ spec.lines_of places.now file row.now) }
 {
-    if row.begin < row.end {
+    if !row.counts && row.begin < row.end {
         lines.push(line_of(alloc, places, file, row)?)?;
     }
     Ok(())

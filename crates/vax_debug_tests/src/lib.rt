@@ -1,12 +1,12 @@
-//! Tests of the debugger: its words, its names, its steps and acts, what it shows, and its sessions.
+//! Tests of the debugger: its words, its names, its steps, and what it shows.
 #![tactic(auto)]
 
 #[cfg(test)]
-mod acts;
+mod frames;
+#[cfg(test)]
+mod machines;
 #[cfg(test)]
 mod names;
-#[cfg(test)]
-mod sessions;
 #[cfg(test)]
 mod steps;
 #[cfg(test)]

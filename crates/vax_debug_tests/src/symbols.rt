@@ -126,6 +126,30 @@ fn tells_lines_of_expansions(rt: HostRuntime) -> Result<(), Fail> {
     Ok(())
 }
 
+/// Two numbers in an absolute section, which stands where the code begins.
+const NUMBERS: &str = "        .PSECT NUMBERS,ABS
+ONE:    .BLKL 1
+TWO:    .BLKL 1
+        .PSECT CODE
+        .ENTRY START,0
+        RET
+        .END START
+";
+
+/// What only counts has no line.
+#[test]
+fn tells_no_line_of_an_absolute_section(rt: HostRuntime) -> Result<(), Fail> {
+    let file = Vec::from_slice(rt.alloc(), NUMBERS.as_bytes())?;
+    let files = vec![in rt.alloc(); file]?;
+    let found = table_of_files(rt.alloc(), Dialect::Vms, Base::User, &files)?;
+    let [start, back] = found.lines.as_slice() else {
+        panic!(rt; "not two lines");
+    };
+    assert!(rt; stands(start, 0x200, 0, 5, b"        .ENTRY START,0"));
+    assert!(rt; stands(back, 0x202, 0, 6, b"        RET"));
+    Ok(())
+}
+
 /// The line of the statement at an address, as it is told.
 fn told(legend: &Legend, address: u32) -> Text {
     let mut text = Text::new();

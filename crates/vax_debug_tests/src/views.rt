@@ -2,7 +2,7 @@
 ghost use Rattle.std.specs.Prelude.{◌<◌};
 ghost use Rattle.vax_debug_words.specs.Expressions.{IsExpression};
 
-use crate::steps::{machine_with, surroundings, untold};
+use crate::machines::{machine_with, surroundings, untold};
 use std::test::Fail;
 use vax_debug::{Breaks, Failure};
 use vax_debug_views::{

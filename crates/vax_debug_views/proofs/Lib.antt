@@ -3,3 +3,4 @@ pub mod Lines
 pub mod Wholes
 pub mod Forms
 pub mod Paging
+pub mod Keeping

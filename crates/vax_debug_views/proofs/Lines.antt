@@ -3,10 +3,9 @@ use Rattle.std.proofs.Common.{◌≡◌, ◌<◌, ◌≤◌, ◌+◌, ◌-◌, �
 use Rattle.vax_flat.specs.Step.{Flat}
 use Rattle.vax_machine.specs.Console.{memory_from}
 use Rattle.vax_debug_names.specs.declared.Legend.{Legend}
-use Rattle.vax_debug_replies.specs.Frames.{frame_line}
 use Rattle.vax_debug_replies.specs.Values.{value_line}
 use Rattle.vax_debug_replies.specs.declared.frames.Frame.{Frame}
-use Rattle.vax_debug_views.specs.Views.{behind_instruction, beyond, caller, entries_from, frames_from, if_any, instruction_shown, instructions_shown, next_entry, values_shown}
+use Rattle.vax_debug_views.specs.Views.{behind_instruction, beyond, caller, entries_from, frame_shown, frames_from, if_any, instruction_shown, instructions_shown, next_entry, values_shown}
 
 all_left : (count : ℕ) → count - 0 ≡ count
 all_left count = omega arith
@@ -66,12 +65,12 @@ instructions_last legend count i a m all = ap (λ (n : ℕ). instructions_shown 
 pub frames_first : (legend : Legend) (count : ℕ) (f : Frame) (m : Flat) → frames_from legend (count - 0) 0 f m ≡ frames_from legend count 0 f m
 frames_first legend count f m = ap (λ (n : ℕ). frames_from legend n 0 f m) (all_left count)
 
-one_frame : (legend : Legend) (n number : ℕ) (f : Frame) (m : Flat) → frames_from legend (suc n) number f m ≡ frame_line legend number f ++ if_any (λ (next : Frame). frames_from legend n (number + 1) next m) (caller f m)
+one_frame : (legend : Legend) (n number : ℕ) (f : Frame) (m : Flat) → frames_from legend (suc n) number f m ≡ frame_shown legend number f m ++ if_any (λ (next : Frame). frames_from legend n (number + 1) next m) (caller f m)
 unfolding frames_from
 one_frame legend n number f m = refl
 
 pub frames_next : (legend : Legend) (count i : ℕ) (f : Frame) (m : Flat) → i < count →
-    frames_from legend (count - i) i f m ≡ frame_line legend i f ++ if_any (λ (next : Frame). frames_from legend (count - (i + 1)) (i + 1) next m) (caller f m)
+    frames_from legend (count - i) i f m ≡ frame_shown legend i f m ++ if_any (λ (next : Frame). frames_from legend (count - (i + 1)) (i + 1) next m) (caller f m)
 frames_next legend count i f m below =
     ap (λ (n : ℕ). frames_from legend n i f m) (one_less count i below) ∙ one_frame legend (count - (i + 1)) i f m
 

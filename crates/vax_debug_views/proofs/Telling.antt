@@ -10,6 +10,7 @@ use Rattle.vax_flat.specs.Step.{Flat}
 use Rattle.vax_machine.specs.Console.{memory_from}
 use Rattle.vax_console.specs.Ends.{OnlyReplied, Scene}
 use Rattle.vax_console.specs.Transcript.{Session}
+use Rattle.vax_debug.specs.Calls.{TellsFrom}
 use Rattle.vax_debug.specs.Sessions.{Counts, IsHere, Origin, ShowsFrom, StaysHere}
 use Rattle.vax_debug.specs.declared.failure.Failure.{Failure}
 use Rattle.vax_debug.specs.declared.failure.Failure.TheVariants as failure
@@ -76,6 +77,15 @@ looked_shows v w b r text addr count cells stays shows p = record {
   stays = stays;
   replied = λ sink o s replies here. subst (λ (z : List (Option ℕ)). Replied r v.sink b (text z)) (shows sink o s replies here) p;
   only = reply_told r v.sink b (text cells) p;
+}
+
+-- a reply of something else that is told of the flat machine
+pub told_shows : {T : Type 0} (v w : Scene) (b : Option Channels) (r : Result (Unit {0}) Failure) (text : T → List ℕ) (f : Flat → T) (found : T) → Stays v w → ((sink : Option Channels) → TellsFrom (with_sink sink v) f found) → Replied r v.sink b (text found) →
+    Shows v (with_sink b w) r (λ (m : Flat). text (f m))
+told_shows v w b r text f found stays tells p = record {
+  stays = stays;
+  replied = λ sink o s replies here. subst (λ z. Replied r v.sink b (text z)) (tells sink o s replies here) p;
+  only = reply_told r v.sink b (text found) p;
 }
 
 -- a call that shows, behind one that looks something up
@@ -183,3 +193,29 @@ showing_cut v w x whole rest q stays = record {
       prefix_stays v.sink w.sink w.sink Report k.written (rest s.machine) (whole s.machine) k.splits k.grew refl;
   only = q.only;
 }
+
+-- two calls that show, one behind the other
+
+replied_then : (r : Result (Unit {0}) Failure) (a b c : Option Channels) (one other whole : List ℕ) → one ++ other ≡ whole → Grew a b (only Report one) → Replied r b c other → Replied r a c whole
+replied_then (Ok x) a b c one other whole e p q = subst (λ (z : List ℕ). Grew a c (only Report z)) e (report_grew a b c one other p q)
+replied_then (Err f) a b c one other whole e p q = line_lost f a b c one other [] whole (ap (λ (z : List ℕ). one ++ z) (append-nil other) ∙ e) p q
+
+pub shows_then : (v w x : Scene) (u : Unit {0}) (r : Result (Unit {0}) Failure) (one other whole : Flat → List ℕ) → ((m : Flat) → one m ++ other m ≡ whole m) → Shows v w (Ok u) one → Shows w x r other → Shows v x r whole
+shows_then v w x u r one other whole is p q = record {
+  stays = λ sink o s replies here. q.stays sink o s replies (p.stays sink o s replies here);
+  replied = λ sink o s replies here.
+      replied_then r v.sink w.sink x.sink (one s.machine) (other s.machine) (whole s.machine) (is s.machine) (p.replied sink o s replies here) (q.replied sink o s replies (p.stays sink o s replies here));
+  only = told_then v.sink w.sink x.sink p.only q.only;
+}
+
+-- the first failed
+pub shows_first : (v w : Scene) (e : Failure) (one other whole : Flat → List ℕ) → ((m : Flat) → one m ++ other m ≡ whole m) → Shows v w (Err e) one → Shows v w (Err e) whole
+shows_first v w e one other whole is p = record {
+  stays = p.stays;
+  replied = λ sink o s replies here. line_lost e v.sink v.sink w.sink [] (one s.machine) (other s.machine) (whole s.machine) (is s.machine) (grew_nothing v.sink) (p.replied sink o s replies here);
+  only = p.only;
+}
+
+-- nothing is to be shown
+pub nothing_shows : (v : Scene) (told : Flat → List ℕ) → ((m : Flat) → told m ≡ []) → Shows v v (Ok tt) told
+nothing_shows v told none = showing_done v v told (λ m. []) (showing_first v told (λ m. []) (λ m. sym (none m))) (λ m. refl)

@@ -1,6 +1,8 @@
 -- What a debugger shows of the flat machine.
-use Rattle.std.specs.Prelude.{ℕ, zero, suc, ◌+◌, ◌%◌, ◌^◌, ◌==◌, if◌then◌else◌, List, [], ◌++◌, codes, Option, None, Some, slice_index}
+use Rattle.std.specs.Prelude.{ℕ, zero, suc, ◌+◌, ◌*◌, ◌/◌, ◌%◌, ◌^◌, ◌==◌, min, if◌then◌else◌, List, [], ◌++◌, length, map, codes, Option, None, Some, slice_index}
+use Rattle.std.specs.List.{range_with_len}
 use Rattle.vax_word.specs.declared.Core.{Core}
+use Rattle.vax_flat.specs.Call.{named}
 use Rattle.vax_flat.specs.Step.{Flat}
 use Rattle.vax_report.specs.Lines.{line, register_line}
 use Rattle.vax_machine.specs.Console.{memory_from}
@@ -12,11 +14,12 @@ use Rattle.vax_debug_words.specs.declared.request.Expression.{Expression}
 use Rattle.vax_debug_words.specs.declared.request.Field.{Field}
 use Rattle.vax_debug_words.specs.declared.request.Span.{Span}
 use Rattle.vax_debug_names.specs.declared.Legend.{Legend}
-use Rattle.vax_debug_replies.specs.Frames.{frame_line}
+use Rattle.vax_debug_replies.specs.Frames.{arguments_line, frame_line, saved_line}
 use Rattle.vax_debug_replies.specs.Instructions.{instruction_at, length_of, listed_instruction}
 use Rattle.vax_debug_replies.specs.Status.{field_line, status_line}
 use Rattle.vax_debug_replies.specs.Values.{ascii_line, value_line}
 use Rattle.vax_debug_replies.specs.declared.frames.Frame.{Frame}
+use Rattle.vax_debug_replies.specs.declared.frames.SavedRegister.{SavedRegister}
 use Rattle.vax_debug.specs.Values.{evaluated}
 
 -- the processor
@@ -118,11 +121,54 @@ saved offset frame m = longword_at m (beyond frame.fp offset)
 unfoldable pub caller : Frame → Flat → Option Frame
 caller frame m = if frame.fp == 0 then None else frame_of (saved 16 frame m) (saved 8 frame m) (saved 12 frame m)
 
+-- how many arguments a list has: its first longword has that in its low byte
+abbrev pub count_in : Option ℕ → ℕ
+count_in None = 0
+count_in (Some first) = first % 256
+
+-- an argument, by its place from 0 on: the arguments lie behind the first longword of the list at AP
+abbrev pub argument : Frame → Flat → (place : ℕ) → Option ℕ
+argument frame m place = longword_at m (beyond frame.ap (4 * place + 4))
+
+abbrev pub first_arguments : (count : ℕ) → Frame → Flat → List (Option ℕ)
+first_arguments count frame m = map (argument frame m) (range_with_len 0 count)
+
+-- of so many arguments the first sixteen
+abbrev pub arguments_of : (count : ℕ) → Frame → Flat → List ℕ
+arguments_of count frame m = arguments_line count (first_arguments (min count 16) frame m)
+
+unfoldable pub arguments_shown : Frame → Flat → List ℕ
+arguments_shown frame m = arguments_of (count_in (longword_at m frame.ap)) frame m
+
+-- the mask of the registers that a frame has saved: bits 27:16 of its second longword
+abbrev pub mask_in : Option ℕ → ℕ
+mask_in None = 0
+mask_in (Some word) = word / 2 ^ 16 % 2 ^ 12
+
+-- a saved register: the values lie from 20 bytes behind FP on, that of the lowest register first
+abbrev pub saved_register : (mask : ℕ) → Frame → Flat → (number : ℕ) → SavedRegister
+saved_register mask frame m number = record { number = number; value = saved (20 + 4 * length (named number mask)) frame m }
+
+-- those of the registers below a number that the mask names
+abbrev pub saved_below : (number mask : ℕ) → Frame → Flat → List SavedRegister
+saved_below number mask frame m = map (saved_register mask frame m) (named number mask)
+
+unfoldable pub saved_shown : Frame → Flat → List ℕ
+saved_shown frame m = saved_line (saved_below 12 (mask_in (saved 4 frame m)) frame m)
+
+-- what the frame of a call keeps: there is none where the frame pointer is 0
+unfoldable pub contents_shown : Frame → Flat → List ℕ
+contents_shown frame m = if frame.fp == 0 then [] else arguments_shown frame m ++ saved_shown frame m
+
+-- a frame with what it keeps
+unfoldable pub frame_shown : Legend → (number : ℕ) → Frame → Flat → List ℕ
+frame_shown legend number frame m = frame_line legend number frame ++ contents_shown frame m
+
 -- at most so many frames, with numbers from this one on
 unfoldable pub frames_from : Legend → (count number : ℕ) → Frame → Flat → List ℕ
 frames_from legend zero number frame m = []
 frames_from legend (suc count) number frame m =
-    frame_line legend number frame ++ if_any (λ next. frames_from legend count (number + 1) next m) (caller frame m)
+    frame_shown legend number frame m ++ if_any (λ next. frames_from legend count (number + 1) next m) (caller frame m)
 
 -- the frames of calls, the innermost first, at most 64
 unfoldable pub frames_shown : Legend → Flat → List ℕ

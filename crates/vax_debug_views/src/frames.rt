@@ -10,10 +10,11 @@ ghost use Rattle.vax_debug.specs.Calls.{TellsFrom};
 ghost use Rattle.vax_debug.specs.Sessions.{Counts, StaysHere};
 ghost use Rattle.vax_debug_replies.specs.Frames.{frame_line};
 ghost use Rattle.vax_debug_views.specs.Showing.{Replied, Shows};
-ghost use Rattle.vax_debug_views.specs.Views.{caller, frame_of, frames_from, frames_shown, innermost, saved};
+ghost use Rattle.vax_debug_views.specs.Views.{caller, frame_of, frame_shown, frames_from, frames_shown, innermost, saved};
 
+use crate::contents::{saved, show_contents};
 use crate::replying::reply;
-use vax_debug::{Failure, longword};
+use vax_debug::Failure;
 use vax_debug_names::Legend;
 use vax_debug_replies::{Frame, push_frame};
 use vax_machine::Machine;
@@ -43,23 +44,6 @@ fn frame_of(pc: Option<u32>, ap: Option<u32>, fp: Option<u32>) -> Option<Frame>
         (Some(pc), Some(ap), Some(fp)) => Some(Frame { pc, ap, fp }),
         _ => None,
     }
-}
-
-/// The longword that a frame has so many bytes behind its pointer.
-fn saved<F: PageFile>(
-    offset: u32,
-    frame: Frame,
-    machine: &mut Machine,
-    file: &mut F,
-) -> Result<Option<u32>, PageFault>
-    ensures tells { (sink : Option Channels) → IfOk result
-        (TellsFrom (scene (engine machine.old) (F.contents file.old) sink) (saved offset frame)) }
-    ensures stays { (sink : Option Channels) →
-        StaysHere (scene (engine machine.old) (F.contents file.old) sink)
-        (scene (engine machine.new) (F.contents file.new) sink) }
-    ensures counts { CountsFailure (is_err result) (F.faults file.old) (F.faults file.new) }
-{
-    longword(frame.fp.wrapping_add(offset), machine, file)
 }
 
 /// Where the caller goes on that a frame has saved.
@@ -109,7 +93,7 @@ fn caller<F: PageFile>(
     }
 }
 
-/// Replies with a frame.
+/// Replies with the line of a frame.
 fn reply_frame<K: Sink>(
     number: u8,
     frame: Frame,
@@ -124,6 +108,28 @@ fn reply_frame<K: Sink>(
     let mut text = Text::new();
     push_frame(&mut text, legend, number, frame);
     reply(text.as_slice(), sink)
+}
+
+/// Replies with a frame and what it keeps.
+fn show_frame<F: PageFile, K: Sink>(
+    number: u8,
+    frame: Frame,
+    legend: &Legend,
+    machine: &mut Machine,
+    file: &mut F,
+    sink: &mut K,
+) -> Result<(), Failure>
+    ensures shows { Shows
+        (scene (engine machine.old) (F.contents file.old) (K.contents sink.old))
+        (scene (engine machine.new) (F.contents file.new) (K.contents sink.new))
+        result (frame_shown legend.now number frame) }
+    ensures counts { Counts result (F.faults file.old) (F.faults file.new) (K.faults sink.old)
+        (K.faults sink.new) }
+{
+    match reply_frame(number, frame, legend, sink) {
+        Ok(()) => show_contents(frame, machine, file, sink),
+        Err(failure) => Err(failure),
+    }
 }
 
 /// Replies with at most 64 frames from this one on.
@@ -143,7 +149,7 @@ fn show_frames_from<F: PageFile, K: Sink>(
 {
     let mut frame = frame;
     for number in 0..MOST {
-        match reply_frame(number, frame, legend, sink) {
+        match show_frame(number, frame, legend, machine, file, sink) {
             Ok(()) => {}
             Err(failure) => return Err(failure),
         }
@@ -156,7 +162,7 @@ fn show_frames_from<F: PageFile, K: Sink>(
     Ok(())
 }
 
-/// Replies with the frames of calls, the innermost first: the procedure that runs, and then where each frame goes back to. It ends behind a frame pointer 0, at
+/// Replies with the frames of calls and what they keep, the innermost first: the procedure that runs, and then where each frame goes back to. It ends behind a frame pointer 0, at
 /// a frame whose longwords memory hasn't whole, and after 64 frames.
 pub fn show_frames<F: PageFile, K: Sink>(
     legend: &Legend,

@@ -4,6 +4,7 @@
 //! (specs/Views). An expression without a value has the reply `?NO SUCH NAME OR ADDRESS`. Nothing here takes memory.
 #![tactic(auto)]
 
+mod contents;
 mod frames;
 mod instructions;
 mod memory;

@@ -219,7 +219,8 @@ pub fn usage(command: Command) -> &'static [u8]
         Command::Watch => b"WATCH x [n]              stops behind each step that changes n bytes",
         Command::Clear => b"CLEAR [x]                takes the stops at an address away, or all",
         Command::Show => b"SHOW BREAKS or WATCHES   tells where to stop, or what is watched",
-        Command::Where => b"WHERE                    shows the frames of calls",
+        Command::Where =>
+            b"WHERE                    shows the frames of calls, arguments and saved registers",
         Command::Stack => b"STACK [n]                shows n longwords of the stack",
         Command::Queue => b"QUEUE x                  follows a queue",
         Command::Pages =>

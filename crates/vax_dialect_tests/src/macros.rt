@@ -140,3 +140,111 @@ fn tells_the_faults_of_macros_in_the_larger_dialect(rt: HostRuntime) {
         assert!(rt; fault_of(alloc, Dialect::Vms, source) == fault, "{source}");
     }
 }
+
+#[test]
+fn defines_opcodes_in_the_larger_dialect(rt: HostRuntime) -> Result<(), Fail> {
+    let alloc = rt.alloc();
+    let rows: [(&str, &[u8], (u32, u8)); 10] = [
+        (
+            ".OPDEF MOVAX ^XD0,RL,WL\nMOVAX #5,R0\nmovax #64,(R1)+\n",
+            b"\xD0\x05\x50\xD0\x8F\x40\0\0\0\x81",
+            (1, 2),
+        ),
+        // The low byte of two comes first, and a label before a use is the place of the opcode.
+        (
+            ".OPDEF X ^X50FD,RB,WD ;RH\nL: X (R1)[R3],@4(R2) ;c\n.BYTE .-L\n",
+            b"\xFD\x50\x43\x61\xB2\x04\x06",
+            (1, 2),
+        ),
+        // A branch forwards, one back, and one to the place of its own displacement.
+        (
+            ".OPDEF GO ^X11,BB\nA: GO B\nGO A\nB: GO .\n",
+            b"\x11\x02\x11\xFC\x11\xFF",
+            (1, 2),
+        ),
+        (
+            ".OPDEF FAR ^X31,BW\nA: FAR A\nFAR B+300\n.BLKB 3\nB: NOP\n.OPDEF TEST ^XE8,RL,BB\nTEST R1,B\n",
+            b"\x31\xFD\xFF\x31\x2F\x01\0\0\0\x01\xE8\x51\xFC",
+            (1, 2),
+        ),
+        // The types have 1, 2, 4 and 8 bytes.
+        (
+            ".OPDEF X 1,RB,RW,RL,RF\nX #64,#64,#64,#64\n",
+            b"\x01\x8F\x40\x8F\x40\0\x8F\x40\0\0\0\x8F\x40\0\0\0",
+            (1, 2),
+        ),
+        (
+            ".OPDEF X 255,rq,RD,RG\nX #64,#64,#64\n",
+            b"\xFF\x8F\x40\0\0\0\0\0\0\0\x8F\x40\0\0\0\0\0\0\0\x8F\x40\0\0\0\0\0\0\0",
+            (1, 2),
+        ),
+        (
+            ".OPDEF X 256,AB,MW,VL,WQ\nX R1,R2,R3,R4\n",
+            b"\0\x01\x51\x52\x53\x54",
+            (1, 2),
+        ),
+        // The last definition counts, also of an instruction's name.
+        (
+            ".OPDEF NOP 2\nNOP\n.OPDEF nop,1+2\nNOP\n.MDELETE NOP\nNOP\n",
+            b"\x02\x03\x01",
+            (1, 2),
+        ),
+        (
+            ".MACRO M N\n.OPDEF X N,RB\n.ENDM\n.IF EQ 1\n.OPDEF X 65536\n.ENDC\nL: M 7\nX R1\n.BYTE L-L\n",
+            b"\x07\x51\0",
+            (7, 2),
+        ),
+        (
+            ".OPDEF X 1,RB,RB,RB,RB,RB,RB,RB,RB,RB,RB,RB,RB,RB,RB,RB,RB\nX R0,R1,R2,R3,R4,R5,R6,R7,R8,R9,R0,R1,R2,R3,R4,R5\n",
+            b"\x01\x50\x51\x52\x53\x54\x55\x56\x57\x58\x59\x50\x51\x52\x53\x54\x55",
+            (1, 2),
+        ),
+    ];
+    for (source, bytes, fault) in rows {
+        let module = assemble(alloc, Dialect::Vms, source.as_bytes())?;
+        assert!(rt; bytes_of(&module) == bytes, "{source}");
+        assert!(rt; fault_of(alloc, Dialect::Vax, source) == fault, "{source}");
+    }
+    Ok(())
+}
+
+#[test]
+fn tells_the_faults_of_opcodes(rt: HostRuntime) {
+    let alloc = rt.alloc();
+    let rows = [
+        (".OPDEF\n", (1, 3)),
+        (".OPDEF 5,1\n", (1, 4)),
+        (".OPDEF . 1\n", (1, 4)),
+        (".OPDEF X\n", (1, 3)),
+        (".OPDEF X,\n", (1, 3)),
+        (".OPDEF X 1 \x07\n", (1, 1)),
+        (".OPDEF X 65536\n", (1, 7)),
+        (".OPDEF X -1\n", (1, 7)),
+        (".OPDEF X Y\nY=1\n", (1, 5)),
+        ("Y: .OPDEF X Y\n", (1, 4)),
+        (".EXTERNAL E\n.REPT E\n.ENDR\n", (2, 5)),
+        (".EXTERNAL E\n.OPDEF X E\n", (2, 5)),
+        (".OPDEF X 1,\n", (1, 4)),
+        (".OPDEF X 1,RL,\n", (1, 4)),
+        (".OPDEF X 1,,RL\n", (1, 4)),
+        (".OPDEF X 1,RX\n", (1, 4)),
+        (".OPDEF X 1,RO\n", (1, 4)),
+        (".OPDEF X 1,WH\n", (1, 4)),
+        (".OPDEF X 1,BL\n", (1, 4)),
+        (".OPDEF X 1,XB\n", (1, 4)),
+        (".OPDEF X 1,R\n", (1, 4)),
+        (".OPDEF X 1,RLL\n", (1, 4)),
+        (
+            ".OPDEF X 1,RB,RB,RB,RB,RB,RB,RB,RB,RB,RB,RB,RB,RB,RB,RB,RB,RB\n",
+            (1, 3),
+        ),
+        (".OPDEF X 1,RL\nX R0,R1\n", (2, 3)),
+        (".OPDEF X 1,RL\nX\n", (2, 3)),
+        (".OPDEF X 1,BB\nX\n", (2, 4)),
+        (".OPDEF X 1,BB\nX A\n.BLKB 127\nA: NOP\n", (0, 0)),
+        (".OPDEF X 1,BB\nX A\n.BLKB 128\nA: NOP\n", (2, 7)),
+    ];
+    for (source, fault) in rows {
+        assert!(rt; fault_of(alloc, Dialect::Vms, source) == fault, "{source}");
+    }
+}

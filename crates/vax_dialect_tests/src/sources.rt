@@ -286,6 +286,50 @@ fn gives_what_one_dialect_has(rt: HostRuntime) -> Result<(), Fail> {
 }
 
 #[test]
+fn copies_masks_of_entries(rt: HostRuntime) -> Result<(), Fail> {
+    let alloc = rt.alloc();
+    let rows: [(&str, &[u8], (u32, u8)); 9] = [
+        // The mask of an entry before and behind, which bits 2 and 3 are for R2 and R3.
+        (".ENTRY F,^M<R2,R3>\n.MASK F\n", b"\x0C\0\x0C\0", (2, 2)),
+        (
+            ".MASK G\n.mask f\n.ENTRY F,^M<R2,R3>\n.ENTRY G,2\n",
+            b"\x02\0\x0C\0\x0C\0\x02\0",
+            (1, 2),
+        ),
+        (
+            ".TRANSFER F\n.MASK F,^M<R4>\nJMP L^F+2\n.ENTRY F,^M<R2,R3>\n",
+            b"\x1C\0\x17\xEF\x02\0\0\0\x0C\0",
+            (1, 2),
+        ),
+        ("M=^M<R5>\n.ENTRY F,M\n.MASK F\n", b"\x20\0\x20\0", (3, 2)),
+        // All of the expression is OR-ed, which may use the name of the entry and local labels of its own block.
+        (".ENTRY F,4\n.MASK F,4+4\n", b"\x04\0\x0C\0", (2, 2)),
+        (
+            ".ENTRY F,12\n.MASK F , X\n.MASK F,F-F\nX=3\n",
+            b"\x0C\0\x0F\0\x0C\0",
+            (2, 2),
+        ),
+        (
+            "A: .WORD 1\n2$: .WORD 2\n.MASK F,2$-A\n.ENTRY F,8\n",
+            b"\x01\0\x02\0\x0A\0\x08\0",
+            (3, 2),
+        ),
+        (".ENTRY F,5\n.MASK F,\n", b"\x05\0\x05\0", (2, 2)),
+        (
+            ".MACRO VECTOR X\n.MASK X\n.ENDM\nVECTOR F\n.ENTRY F,7\n",
+            b"\x07\0\x07\0",
+            (4, 2),
+        ),
+    ];
+    for (source, bytes, fault) in rows {
+        let module = assemble(alloc, Dialect::Vms, source.as_bytes())?;
+        assert!(rt; bytes_of(&module) == bytes, "{source}");
+        assert!(rt; fault_of(alloc, Dialect::Vax, source) == fault, "{source}");
+    }
+    Ok(())
+}
+
+#[test]
 fn operators_see_32_bits_in_the_larger_one(rt: HostRuntime) -> Result<(), Fail> {
     let alloc = rt.alloc();
     let rows: [(&str, &[u8], &[u8]); 6] = [
@@ -369,6 +413,23 @@ fn tells_the_faults_of_the_larger_dialect(rt: HostRuntime) {
         (".NTYPE T,R1[R2]\n", (1, 4)),
         (".NTYPE T,B^300(R1)\n", (1, 7)),
         ("T: .NTYPE T,R0\n", (1, 6)),
+        (".MASK\n", (1, 3)),
+        (".MASK F,1,2\n.ENTRY F,0\n", (1, 3)),
+        (".MASK 5\n", (1, 4)),
+        (".MASK .\n", (1, 4)),
+        (".MASK 1$\n", (1, 4)),
+        (".MASK ,4\n", (1, 4)),
+        (".MASK F\n", (1, 5)),
+        ("F: NOP\n.MASK F\n", (2, 5)),
+        ("F=5\n.MASK F,F\n", (2, 5)),
+        (".EXTERNAL F\n.MASK F\n", (2, 5)),
+        (".MASK F\n.ENTRY F,M\nM=4\n", (1, 5)),
+        (".MASK F,1$\n.ENTRY F,4\n", (1, 5)),
+        (".ENTRY F,4\n.MASK F,F\n", (2, 4)),
+        (".ENTRY F,4\n.MASK F,1+\n", (2, 4)),
+        (".ENTRY F,4\n.MASK F,A\n", (2, 4)),
+        (".ENTRY F,4\n.MASK F,65536\n", (2, 7)),
+        (".ENTRY F,1\n.ENTRY F,2\n", (2, 6)),
         (".REF1\n", (1, 3)),
         (".REF2 R0,R1\n", (1, 3)),
         (".REF1 #256\n", (1, 7)),
@@ -380,8 +441,6 @@ fn tells_the_faults_of_the_larger_dialect(rt: HostRuntime) {
         (".ALIGN LONG,1,2\n", (1, 3)),
         (".ALIGN 10,300\n", (1, 7)),
         (".PSECT A,10\n", (1, 4)),
-        (".PSECT A,MIX\n", (1, 4)),
-        (".PSECT A,OVR\n", (1, 4)),
         (".PSECT A,2,LONG\n.PSECT A,3\n", (2, 4)),
         (".ENABLE\n", (1, 3)),
         (".ENABLE LISTING\n", (1, 4)),
@@ -477,7 +536,7 @@ fn shares_weak_names(rt: HostRuntime) -> Result<(), Fail> {
 #[test]
 fn counts_in_absolute_sections(rt: HostRuntime) -> Result<(), Fail> {
     let alloc = rt.alloc();
-    let rows: [(&str, &[u8]); 8] = [
+    let rows: [(&str, &[u8]); 9] = [
         (
             ".PSECT X,ABS\nA: .BLKB 1\nB: .BLKW 1\n.ALIGN LONG\nC: .BLKQ 2\nD:\n.PSECT\n.BYTE A,B,C,D\n",
             b"\0\x01\x04\x14",
@@ -510,6 +569,10 @@ fn counts_in_absolute_sections(rt: HostRuntime) -> Result<(), Fail> {
             ".PSECT X,REL\nA: .BYTE 1\n.PSECT X,REL\nB:\n.PSECT\n.BYTE B-A\n",
             b"\x01",
         ),
+        (
+            ".PSECT X,ABS,OVR\n.BLKB 3\n.PSECT X,CON\nA:\n.PSECT\n.BYTE A\n",
+            b"\x03",
+        ),
     ];
     for (source, bytes) in rows {
         let module = assemble(alloc, Dialect::Vms, source.as_bytes())?;
@@ -535,6 +598,116 @@ fn lays_no_absolute_section(rt: HostRuntime) -> Result<(), Fail> {
     Ok(())
 }
 
+/// The labels of an overlaid section are places of it, and so is `.`; it has no bytes, and its module says how far it reaches.
+#[test]
+fn counts_in_overlaid_sections(rt: HostRuntime) -> Result<(), Fail> {
+    let alloc = rt.alloc();
+    // The source, where the label A stands, how far the section reaches, and the bytes that it is aligned to.
+    let rows: [(&str, i64, u32, u16); 9] = [
+        (".PSECT X,OVR\n.BLKB 5\nA:: .BLKL 2\n", 5, 13, 1),
+        (".PSECT X,OVR\n.BLKL\n.BLKB 1\n.ALIGN QUAD\nA::\n", 8, 8, 8),
+        (".PSECT X,ovr,LONG,NOWRT\n.BLKB\n.EVEN\nA:: .ODD\n", 2, 3, 4),
+        (".PSECT X,OVR\n. = . + 4\nA:: .BLKW 3\n", 4, 10, 1),
+        (".PSECT X,OVR\nB: .BLKL 3\n. = B + 20\nA::\n", 20, 20, 1),
+        (
+            ".PSECT X,OVR\n.BLKW\n.PSECT\n.BYTE 1\n.PSECT X\nA:: .BLKB\n",
+            2,
+            3,
+            1,
+        ),
+        (
+            ".PSECT X,OVR,MIX\nA::\n.PSECT X,NOMIX,OVR\n.BLKB 7\n",
+            0,
+            7,
+            1,
+        ),
+        (
+            ".PSECT X,OVR,REL\nA::\n.PSECT\n.PSECT X,REL\n.BLKB 2\n",
+            0,
+            2,
+            1,
+        ),
+        (
+            ".PSECT X,OVR\n.BLKB 9\n.SAVE_PSECT\n.PSECT\n.RESTORE_PSECT\nA::\n",
+            9,
+            9,
+            1,
+        ),
+    ];
+    for (source, place, storage, align) in rows {
+        let module = assemble(alloc, Dialect::Vms, source.as_bytes())?;
+        let [unnamed, section] = module.sections.as_slice() else {
+            panic!(rt; "not two sections");
+        };
+        assert!(rt; section.bytes.as_slice().is_empty(), "{source}");
+        assert!(rt; section.storage == storage, "{source}");
+        assert!(rt; section.align == align, "{source}");
+        assert!(rt; unnamed.storage == 0);
+        for global in module.globals.as_slice() {
+            let wanted = Value::Section {
+                section: 1,
+                offset: place,
+            };
+            assert!(rt; global.value == wanted, "{source}");
+        }
+        assert!(rt; module.globals.as_slice().len() == 1);
+    }
+    Ok(())
+}
+
+/// What lies in an overlaid section is named from others, a distance in it is a number, and a section that `CON` is said of
+/// has bytes.
+#[test]
+fn names_places_of_overlaid_sections(rt: HostRuntime) -> Result<(), Fail> {
+    let alloc = rt.alloc();
+    let source =
+        b".PSECT X,OVR\n.BLKB 3\nA: .BLKB 4\nB:\n.PSECT Y,CON\n.BYTE B-A\n.LONG B\n.PSECT Y,CON\n.BYTE 1\n";
+    let module = assemble(alloc, Dialect::Vms, source)?;
+    let [_, _, section] = module.sections.as_slice() else {
+        panic!(rt; "not three sections");
+    };
+    assert!(rt; section.bytes.as_slice() == b"\x04\0\0\0\0\x01".as_slice());
+    assert!(rt; section.storage == 0);
+    let [reloc] = module.relocs.as_slice() else {
+        panic!(rt; "not one field");
+    };
+    let wanted = Value::Section {
+        section: 1,
+        offset: 7,
+    };
+    assert!(rt; reloc.target == wanted);
+    Ok(())
+}
+
+#[test]
+fn finds_faults_in_overlaid_sections(rt: HostRuntime) {
+    let alloc = rt.alloc();
+    let rows = [
+        (".PSECT X,OVR\n.LONG 1\n", (2, 4)),
+        (".PSECT X,OVR\nNOP\n", (2, 4)),
+        (".PSECT X,OVR\n.BYTE 0[0]\n", (2, 4)),
+        (".PSECT X,OVR\n.LONG 0[20000000]\n", (2, 4)),
+        (".PSECT X,OVR\n.ASCII //\n", (2, 4)),
+        (".PSECT X,OVR\n.ADDRESS A\n", (2, 4)),
+        (".PSECT X,OVR\n.ENTRY A,0\n", (2, 4)),
+        (".PSECT X,OVR\n.ALIGN BYTE,1\n", (2, 4)),
+        (".PSECT X,OVR,CON\n", (1, 4)),
+        (".PSECT X,CON,OVR\n", (1, 4)),
+        (".PSECT X\n.PSECT X,OVR\n", (2, 4)),
+        (".PSECT X,OVR\n.PSECT X,CON\n", (2, 4)),
+        (".PSECT X,OVR\n.PSECT X,ABS\n", (2, 4)),
+        (".PSECT X,OVR\n.BLKB 2\n.=1\n", (3, 4)),
+        (".PSECT X,OVR\nA: .BLKB 2\n.=A+1\n", (3, 7)),
+        (".PSECT X,OVR\nA: .BLKB 2\n.PSECT\n.=A\n", (4, 4)),
+        (".PSECT X,OVR\n.BLKB 1048577\n", (2, 11)),
+    ];
+    for (source, fault) in rows {
+        assert!(rt; fault_of(alloc, Dialect::Vms, source) == fault, "{source}");
+    }
+    assert!(rt; fault_of(alloc, Dialect::Vax, ".PSECT X,OVR\n") == (1, 4));
+    assert!(rt; fault_of(alloc, Dialect::Vax, ".PSECT X,MIX\n") == (1, 4));
+}
+
 #[test]
 fn finds_faults_in_absolute_sections(rt: HostRuntime) {
     let alloc = rt.alloc();
@@ -556,6 +729,7 @@ fn finds_faults_in_absolute_sections(rt: HostRuntime) {
         (".PSECT X,ABS\n.BLKB 1048577\n", (2, 11)),
         ("A: NOP\n.PSECT X,ABS\n.=A\n", (3, 4)),
         (".PSECT X,ABS\nA:\n.PSECT\n.=A\n", (4, 4)),
+        (".PSECT X,ABS,OVR,CON\n", (1, 4)),
     ];
     for (source, fault) in rows {
         assert!(rt; fault_of(alloc, Dialect::Vms, source) == fault, "{source}");

@@ -17,7 +17,7 @@ use Rattle.vax_asm_laws.specs.Leading.{with_statement}
 use Rattle.vax_asm_second.specs.Faults.{first_of}
 use Rattle.vax_asm_second.specs.Laid.{Known, laid, output, outputs}
 use Rattle.vax_asm_second.specs.Modules.{filled_in, known_in, module_of, unless_faulty}
-use Rattle.vax_asm_first.proofs.Putting.{longer_relative}
+use Rattle.vax_asm_first.proofs.Putting.{longer_held}
 use Rattle.vax_asm_sections.specs.Layout.{Part, Section as Building, Sections, current_of, section_limit}
 use Rattle.vax_flat.specs.Grammar.{Sequence, Specifier, Literal, Register, Immediate, InMemory, Indexed, BranchBy, IsUnreserved, read_operands}
 use Rattle.vax_isa.specs.Rows.{IsKind}
@@ -125,7 +125,7 @@ pub record Alone (n : ℕ) (a : Assembly) : Type 0 where
   pub section : Building Fixup
   pub is : a.standing.sections ≡ record { all = section ∷ []; current = 0; total = n }
   pub size : section.size ≡ n
-  pub relative : section.absolute ≡ None
+  pub has_bytes : section.counter ≡ None
   pub clear : AllClear section.parts
   pub none : a.assignments ≡ []
 
@@ -136,17 +136,17 @@ record Put (parts : List (Part Fixup)) (x : Building Fixup) (n : ℕ) : Type 0 w
   section : Building Fixup
   is : put_all parts (only x n) ≡ only section (end_of n parts)
   size : section.size ≡ end_of n parts
-  relative : section.absolute ≡ None
+  has_bytes : section.counter ≡ None
   clear : AllClear section.parts
 
-put_only : (parts : List (Part Fixup)) (x : Building Fixup) (n : ℕ) → x.size ≡ n → x.absolute ≡ None → AllClear x.parts → AllClear parts → Put parts x n
+put_only : (parts : List (Part Fixup)) (x : Building Fixup) (n : ℕ) → x.size ≡ n → x.counter ≡ None → AllClear x.parts → AllClear parts → Put parts x n
 unfolding AllClear
-put_only [] x n e r h k = record { section = x; is = refl; size = e; relative = r; clear = h }
+put_only [] x n e r h k = record { section = x; is = refl; size = e; has_bytes = r; clear = h }
 put_only (p ∷ parts) x n e r h k =
     let m : ℕ = part_length p in
     let y : Building Fixup = record x { size = x.size + m; parts = x.parts ++ p ∷ [] } in
     let next : Put parts y (n + m) = put_only parts y (n + m) (ap (λ (j : ℕ). j + m) e) r (all_clear x.parts (p ∷ []) h (k.0, tt)) k.1 in
-    record { section = next.section; is = ap (λ (z : Building Fixup). put_all parts (only z (n + m))) (longer_relative m p x r) ∙ next.is; size = next.size; relative = next.relative; clear = next.clear }
+    record { section = next.section; is = ap (λ (z : Building Fixup). put_all parts (only z (n + m))) (longer_held m p x r) ∙ next.is; size = next.size; has_bytes = next.has_bytes; clear = next.clear }
 
 record Stood (origin : Origin) (text : List ℕ) (n count : ℕ) (a : Assembly) : Type 0 where
   behind : Standing
@@ -166,10 +166,10 @@ line_stood origin text n count a adding alone room =
     let current : s.sections.current ≡ 0 = ap (λ (x : Sections Fixup). x.current) alone.is in
     let some : length s.sections.all ≡ 1 = ap (λ (x : Sections Fixup). length x.all) alone.is in
     let fits : (adds d.parts (begun_at s)).progress.fault ≡ None =
-    adds_fits d.parts (begun_at s) refl (omega (arith, current, some)) (let long = d.long 0 in omega (arith, size), let long = d.long 0 in omega (arith, total), ap (λ (x : Sections Fixup). (current_of x).absolute) alone.is ∙ alone.relative) in
+    adds_fits d.parts (begun_at s) refl (omega (arith, current, some)) (let long = d.long 0 in omega (arith, size), let long = d.long 0 in omega (arith, total), ap (λ (x : Sections Fixup). (current_of x).counter) alone.is ∙ alone.has_bytes) in
     let p : Progress = (adds d.parts (begun_at s)).progress in
     let stood : p.standing ≡ standing_with d.parts s = adds_made d.parts (begun_at s) fits in
-    let put : Put d.parts alone.section n = put_only d.parts alone.section n alone.size alone.relative alone.clear d.clear in
+    let put : Put d.parts alone.section n = put_only d.parts alone.section n alone.size alone.has_bytes alone.clear d.clear in
     record {
       behind = standing_with d.parts s;
       placed = d.is s size ∙ ap (λ (r : Result Standing _). placed_by r None) (done_none p fits ∙ ap (λ (t : Standing). Ok t) stood);
@@ -177,7 +177,7 @@ line_stood origin text n count a adding alone room =
         section = put.section;
         is = ap (put_all d.parts) alone.is ∙ put.is ∙ ap (only put.section) (d.long n);
         size = put.size ∙ d.long n;
-        relative = put.relative;
+        has_bytes = put.has_bytes;
         clear = put.clear;
         none = alone.none;
       };

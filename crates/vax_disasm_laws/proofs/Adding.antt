@@ -5,7 +5,7 @@ use Rattle.std.proofs.lemmas.List.{append-nil, get_or-set_same, length-set}
 use Rattle.vax_asm_first.specs.Faults.{lowest}
 use Rattle.vax_asm_first.specs.Fixups.{Fixup}
 use Rattle.vax_asm_first.specs.Progress.{Progress, added, begun}
-use Rattle.vax_asm_first.proofs.Putting.{IsData, longer_relative, put_made, put_relative, put_room}
+use Rattle.vax_asm_first.proofs.Putting.{IsData, longer_held, put_made, put_held, put_room}
 use Rattle.vax_asm_first.specs.Standing.{Standing}
 use Rattle.vax_asm_instruction.specs.Stating.{Reached, behind}
 use Rattle.vax_asm_sections.specs.Layout.{Part, Section, Sections, current_of, exceeds, longer, module_limit, section_limit, unnamed, with_part}
@@ -56,15 +56,15 @@ adds_made (p ∷ parts) r h =
     let one = lowest_none r.progress.fault (added (part_length p) p s).fault (adds_before parts (reached_with p r) h) in
     adds_made parts (reached_with p r) h ∙ ap (standing_with parts) (put_made (part_length p) p s one.1)
 
-pub adds_relative : (parts : List (Part Fixup)) (s : Standing) → HasData parts → (adds parts (begun_at s)).progress.fault ≡ None → (current_of s.sections).absolute ≡ None
-adds_relative [] s sort h = absurd sort
-adds_relative (p ∷ parts) s sort h =
-    put_relative (part_length p) p s sort (lowest_none None (added (part_length p) p s).fault (adds_before parts (reached_with p (begun_at s)) h)).1
+pub adds_held : (parts : List (Part Fixup)) (s : Standing) → HasData parts → (adds parts (begun_at s)).progress.fault ≡ None → (current_of s.sections).counter ≡ None
+adds_held [] s sort h = absurd sort
+adds_held (p ∷ parts) s sort h =
+    put_held (part_length p) p s sort (lowest_none None (added (part_length p) p s).fault (adds_before parts (reached_with p (begun_at s)) h)).1
 
 -- ---- with room
 
 abbrev pub HasRoom : ℕ → Sections Fixup → Type 0
-HasRoom n s = ((current_of s).size + n ≤ section_limit) × (s.total + n ≤ module_limit) × ((current_of s).absolute ≡ None)
+HasRoom n s = ((current_of s).size + n ≤ section_limit) × (s.total + n ≤ module_limit) × ((current_of s).counter ≡ None)
 
 room_is : (n : ℕ) (s : Sections Fixup) → HasRoom n s → exceeds (current_of s).size s.total n ≡ false
 room_is n s h = let first = h.0 in let second = h.1 in grind (arith, nat_tests)
@@ -102,12 +102,12 @@ adds_fits (p ∷ parts) r e within room =
     let least : n ≤ end_of n parts = end_least n parts in
     let one : added n p s ≡ record { fault = None; standing = record s { sections = with_part n p s.sections } } = room_fits n p s (omega (arith, room.0, whole, least), omega (arith, room.1, whole, least), room.2) in
     let x : Section Fixup = current_of s.sections in
-    let next : current_of (with_part n p s.sections) ≡ record x { size = x.size + n; parts = x.parts ++ p ∷ [] } = current_longer n p s.sections within ∙ longer_relative n p x room.2 in
+    let next : current_of (with_part n p s.sections) ≡ record x { size = x.size + n; parts = x.parts ++ p ∷ [] } = current_longer n p s.sections within ∙ longer_held n p x room.2 in
     let made : (reached_with p r).progress ≡ record { fault = None; standing = record s { sections = with_part n p s.sections } } = rw (e, one) refl in
     let size : (current_of (with_part n p s.sections)).size ≡ (current_of s.sections).size + n = ap (λ (y : Section Fixup). y.size) next in
     adds_fits parts (reached_with p r) (ap (λ (q : Progress). q.fault) made)
     (subst (λ (q : Progress). q.standing.sections.current < length q.standing.sections.all) (sym made) (within_part n p s.sections within))
-    (subst (λ (q : Progress). HasRoom (end_of 0 parts) q.standing.sections) (sym made) (omega (arith, room.0, size, all, whole), omega (arith, room.1, all, whole), ap (λ (y : Section Fixup). y.absolute) next ∙ room.2))
+    (subst (λ (q : Progress). HasRoom (end_of 0 parts) q.standing.sections) (sym made) (omega (arith, room.0, size, all, whole), omega (arith, room.1, all, whole), ap (λ (y : Section Fixup). y.counter) next ∙ room.2))
 
 -- ---- what the current section has then
 
@@ -117,14 +117,14 @@ pub record Longer (parts : List (Part Fixup)) (s t : Sections Fixup) : Type 0 wh
   pub parts_are : (current_of t).parts ≡ (current_of s).parts ++ parts
   pub size : (current_of t).size ≡ end_of (current_of s).size parts
 
-pub put_longer : (parts : List (Part Fixup)) (s : Sections Fixup) → s.current < length s.all → (current_of s).absolute ≡ None → Longer parts s (put_all parts s)
+pub put_longer : (parts : List (Part Fixup)) (s : Sections Fixup) → s.current < length s.all → (current_of s).counter ≡ None → Longer parts s (put_all parts s)
 put_longer [] s h e = record { current = refl; count = refl; parts_are = sym (append-nil (current_of s).parts); size = refl }
 put_longer (p ∷ parts) s h e =
     let n : ℕ = part_length p in
     let next : Sections Fixup = with_part n p s in
     let x : Section Fixup = current_of s in
-    let section : current_of next ≡ record x { size = x.size + n; parts = x.parts ++ p ∷ [] } = current_longer n p s h ∙ longer_relative n p x e in
-    let rest : Longer parts next (put_all parts next) = put_longer parts next (within_part n p s h) (ap (λ (y : Section Fixup). y.absolute) section ∙ e) in
+    let section : current_of next ≡ record x { size = x.size + n; parts = x.parts ++ p ∷ [] } = current_longer n p s h ∙ longer_held n p x e in
+    let rest : Longer parts next (put_all parts next) = put_longer parts next (within_part n p s h) (ap (λ (y : Section Fixup). y.counter) section ∙ e) in
     record {
       current = rest.current;
       count = rest.count ∙ length-set s.all s.current (longer n p (current_of s));

@@ -28,7 +28,7 @@ use Rattle.vax_asm_laws.specs.Counted.{end_of}
 use Rattle.vax_asm_laws.specs.Leading.{Leads, Line, with_statement}
 use Rattle.vax_asm_laws.specs.Lying.{StandsAt}
 use Rattle.vax_disasm_laws.specs.Assembling.{IsLinked, Program, Shows}
-use Rattle.vax_disasm_laws.proofs.Adding.{HasData, Longer, adds, adds_made, adds_relative, begun_at, put_all, put_longer, standing_with}
+use Rattle.vax_disasm_laws.proofs.Adding.{HasData, Longer, adds, adds_made, adds_held, begun_at, put_all, put_longer, standing_with}
 use Rattle.vax_disasm_laws.proofs.Lines.{NextRead, fields, head_kind, later_bytes, next_read, none_read, parts_of, tail_kinds}
 use Rattle.vax_disasm_laws.proofs.Meant.{back_from, number_for, operand_for}
 use Rattle.vax_disasm_laws.proofs.Readings.{AreBytes, IsRead, May, is_read_from}
@@ -123,4 +123,4 @@ line_puts parts a line lines end sort within is leads =
     let stood = done_ok r.progress.fault r.progress.standing t made in
     let standing : standing_with parts a.standing ≡ t = sym (adds_made parts (begun_at a.standing) stood.0) ∙ stood.1 in
     let sections : put_all parts a.standing.sections ≡ t.sections = ap (λ (x : Standing). x.sections) standing in
-    (with_statement t leads.1 a, record { longer = subst (λ (x : Sections Fixup). Longer parts a.standing.sections x) sections (put_longer parts a.standing.sections within (adds_relative parts a.standing sort stood.0)); leads = leads.3; one = (t, leads.1, leads.2, refl) })
+    (with_statement t leads.1 a, record { longer = subst (λ (x : Sections Fixup). Longer parts a.standing.sections x) sections (put_longer parts a.standing.sections within (adds_held parts a.standing sort stood.0)); leads = leads.3; one = (t, leads.1, leads.2, refl) })

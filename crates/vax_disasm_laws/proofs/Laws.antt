@@ -54,9 +54,9 @@ is_statement bytes address l origin s are e within room =
     let parts : List (Part Fixup) = parts_of origin is.opcode address (current_of s.sections).size one.operands in
     let count : (from : ℕ) → end_of from parts ≡ from + l.length = λ from. parts_long bytes address l origin (current_of s.sections).size from are one in
     let fits : (adds parts (begun_at s)).progress.fault ≡ None =
-    adds_fits parts (begun_at s) refl within (let room_section = room.section in omega (arith, count 0), let room_whole = room.whole in omega (arith, count 0), room.relative) in
+    adds_fits parts (begun_at s) refl within (let room_section = room.section in omega (arith, count 0), let room_whole = room.whole in omega (arith, count 0), room.has_bytes) in
     let p : Progress = (adds parts (begun_at s)).progress in
-    let longer : Longer parts s.sections (standing_with parts s).sections = put_longer parts s.sections within room.relative in
+    let longer : Longer parts s.sections (standing_with parts s).sections = put_longer parts s.sections within room.has_bytes in
     let stood : p.standing ≡ standing_with parts s = adds_made parts (begun_at s) fits in
     record {
       behind = standing_with parts s;
@@ -78,7 +78,7 @@ record Whole (p : Program) (owner : ℕ) (h : Halves) : Type 0 where
   ahead : Ahead (section_at (section_of h) h.end.standing.sections).parts (section_of h) h.middle h.end
 
 blank : Section
-blank = record { name = []; align = 1; write = false; bytes = [] }
+blank = record { name = []; align = 1; write = false; bytes = []; storage = 0 }
 
 there_is : (modules : List Module) (owner : ℕ) (m : Module) → slice_get modules owner ≡ Some m → module_at modules owner ≡ m
 there_is [] owner m e = cc
@@ -183,6 +183,6 @@ unfolding assembled
 source_accepted dialect source bytes address are room is =
     let these : List (List ℕ) = row_texts (rows_from 0 address bytes) in
     let steps : ℕ = suc (work (started dialect source)) in
-    let start : Alone 0 (nothing dialect) = record { section = unnamed; is = refl; size = refl; relative = refl; clear = nothing_clear; none = refl } in
+    let start : Alone 0 (nothing dialect) = record { section = unnamed; is = refl; size = refl; has_bytes = refl; clear = nothing_clear; none = refl } in
     let made = texts_accepted dialect these steps 0 0 0 (nothing dialect) (rows_ordinary bytes 0 address are) (short_each these is.short) (rows_fit bytes are 0 address 0 (omega arith) (omega arith)) (let few = is.few in omega arith) (let few = is.few in omega arith) start in
     record { source_module = made.0; is = ap (λ (ts : List (List ℕ)). walked steps (left_of dialect 0 ts 0) (nothing dialect) None) is.texts ∙ made.1 }

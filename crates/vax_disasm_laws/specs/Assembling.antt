@@ -19,11 +19,11 @@ use Rattle.vax_module.specs.declared.Module.{Module}
 abbrev pub AreBytes : List ℕ → Type 0
 AreBytes bytes = (k : ℕ) → slice_index bytes k < 256
 
--- There is room for so many bytes more in the current section, which isn't absolute, and in the module.
+-- There is room for so many bytes more in the current section, which doesn't only count, and in the module.
 pub record HasRoom (count : ℕ) (s : Sections Fixup) : Type 0 where
   pub section : (current_of s).size + count ≤ section_limit
   pub whole : s.total + count ≤ module_limit
-  pub relative : (current_of s).absolute ≡ None
+  pub has_bytes : (current_of s).counter ≡ None
 
 -- From the address on the image holds these bytes.
 abbrev pub Shows : Image → (address : ℕ) → List ℕ → Type 0

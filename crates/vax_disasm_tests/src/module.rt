@@ -11,6 +11,7 @@ fn tells_its_parts(rt: HostRuntime) -> Result<(), Fail> {
         align: 4,
         write: false,
         bytes,
+        storage: 0,
     };
     let reloc = Reloc {
         section: 0,

@@ -1,7 +1,7 @@
 -- The areas that the code makes of sections.
-use Rattle.std.proofs.Common.{◌≡◌, ℕ, suc, ◌+◌, ◌-◌, ◌<◌, ◌≤◌, Bool, true, false, cond, List, [], ◌∷◌, ◌++◌, length, take, get_or, Option, Some, None, refl, sym, ap, subst, ◌∙◌, append_assoc, arith}
+use Rattle.std.proofs.Common.{◌≡◌, ℕ, suc, ◌+◌, ◌-◌, ◌<◌, ◌≤◌, Bool, true, false, cond, List, [], ◌∷◌, ◌++◌, length, take, get_or, Option, Some, None, refl, sym, ap, ◌∙◌, append_assoc, arith}
 use Rattle.std.specs.Bool.{beq}
-use Rattle.std.specs.Prelude.{All, not, ◌&&◌, ◌==◌, replicate, slice_index}
+use Rattle.std.specs.Prelude.{not, ◌&&◌, ◌==◌, replicate, slice_index}
 use Rattle.std.specs.Borrow.{Bor}
 use Rattle.std.specs.Global.{Vec}
 use Rattle.std.specs.List.{filter, filter_map, fold, zip}
@@ -14,44 +14,38 @@ use Rattle.std.proofs.lemmas.Slice.Zip.{get_or-zip, length-zip}
 use Rattle.vax_space.specs.declared.Area.{Area}
 use Rattle.vax_module.specs.declared.Section.{Section}
 use Rattle.vax_module.specs.declared.Module.{Module}
-use Rattle.vax_module.specs.Formed.{Formed}
 use Rattle.vax_image.specs.declared.Base.{Base}
 use Rattle.vax_link.specs.declared.placed.Layout.{Layout}
 use Rattle.vax_link.specs.Names.{Name}
 use Rattle.vax_link.specs.Layout.{aligned, is_control_block, is_listed, is_named, is_too_large, is_writable, names_in, names_of, origin, page_behind, pages_from, pages_of, pages_of_names, pieces_of, placed_names, sections_in, size_of}
-use Rattle.vax_link.specs.Placed.{IsFilling, IsLayout, bytes_in}
+use Rattle.vax_link.specs.Placed.{IsLayout, bytes_in}
 use Rattle.vax_link.specs.Values.{filled_from}
 use Rattle.vax_link.specs.Linked.{area_of, area_unless_empty, areas_of, bytes_of, is_chosen, protection, with_piece}
 use Rattle.vax_link.proofs.LayoutLaws.{aligned_above, listed_at}
-use Rattle.vax_link.proofs.ImageLaws.{few_pages, section_long, size_fits}
+use Rattle.vax_link.proofs.ImageLaws.{few_bytes, size_fits}
 use Rattle.vax_link.proofs.RoomLaws.{name_at}
-use Rattle.vax_link.proofs.FillLaws.{filled_long}
 use Rattle.vax_link.proofs.LinkLaws.{areas_in}
 
 -- ---- one area
 
-pub empty_area : (region : Base) (pieces : List Section) (filled : List (List ℕ)) (name : Name) (first len : ℕ) → IsFilling pieces filled → len ≡ length (bytes_of pieces filled name) → (len == 0) ≡ true
-    → None ≡ area_unless_empty region pieces filled (name, first)
-empty_area region pieces filled name first len filling long none =
-    let zero_long : len ≡ 0 = eqb-true len 0 none in
-    let size : size_of pieces name ≡ 0 = sym (section_long pieces filled name filling) ∙ sym long ∙ zero_long in
-    let pages : pages_of pieces name ≡ 0 = ap (λ (n : ℕ). div_ceil n 512) size in
+pub empty_area : (region : Base) (pieces : List Section) (filled : List (List ℕ)) (name : Name) (first size : ℕ) → size ≡ size_of pieces name → (size == 0) ≡ true → None ≡ area_unless_empty region pieces filled (name, first)
+empty_area region pieces filled name first size same none =
+    let pages : pages_of pieces name ≡ 0 = ap (λ (n : ℕ). div_ceil n 512) (sym same ∙ eqb-true size 0 none) in
     sym (ap (λ (n : ℕ). cond (n == 0) None (Some (area_of region pieces filled (name, first)))) pages)
 
 not_zero : (b : Bool) (n : ℕ) → (n == 0) ≡ b → 0 < n → (n == 0) ≡ false
 not_zero true n is some = absurd (let e = eqb-true n 0 is in omega arith)
 not_zero false n is some = is
 
-pub full_area : (region : Base) (pieces : List Section) (filled : List (List ℕ)) (name : Name) (first len pages prot : ℕ) (bytes : List ℕ) → IsFilling pieces filled → len ≡ length (bytes_of pieces filled name) → (len == 0) ≡ false
-    → pages ≡ div_ceil len 512 → prot ≡ protection region (is_control_block region name) (is_writable name pieces) → bytes ≡ bytes_of pieces filled name
+pub full_area : (region : Base) (pieces : List Section) (filled : List (List ℕ)) (name : Name) (first size pages prot : ℕ) (bytes : List ℕ) → size ≡ size_of pieces name → (size == 0) ≡ false
+    → pages ≡ div_ceil size 512 → prot ≡ protection region (is_control_block region name) (is_writable name pieces) → bytes ≡ bytes_of pieces filled name
     → Some (record { first = first; pages = pages; prot = prot; bytes = bytes }) ≡ area_unless_empty region pieces filled (name, first)
-full_area region pieces filled name first len pages prot bytes filling long full pages_are prot_is bytes_are =
-    let size : len ≡ size_of pieces name = long ∙ section_long pieces filled name filling in
-    let some = eqb-false len 0 full in
+full_area region pieces filled name first size pages prot bytes same full pages_are prot_is bytes_are =
+    let some = eqb-false size 0 full in
     let fits = size_fits pieces name in
     let full_pages : (pages_of pieces name == 0) ≡ false = not_zero (pages_of pieces name == 0) (pages_of pieces name) refl (omega arith) in
     let make : ℕ → ℕ → List ℕ → Option Area = λ p q b. Some (record { first = first; pages = p; prot = q; bytes = b }) in
-    ap (λ (p : ℕ). make p prot bytes) (pages_are ∙ ap (λ (n : ℕ). div_ceil n 512) size) ∙ ap (λ (q : ℕ). make (pages_of pieces name) q bytes) prot_is
+    ap (λ (p : ℕ). make p prot bytes) (pages_are ∙ ap (λ (n : ℕ). div_ceil n 512) same) ∙ ap (λ (q : ℕ). make (pages_of pieces name) q bytes) prot_is
     ∙ ap (λ (b : List ℕ). make (pages_of pieces name) (protection region (is_control_block region name) (is_writable name pieces)) b) bytes_are
     ∙ sym (ap (λ b. cond b None (Some (area_of region pieces filled (name, first)))) full_pages)
 
@@ -62,15 +56,14 @@ unfolding pages_from
 pages_long region pieces page [] = refl
 pages_long region pieces page (name ∷ names) = ap suc (pages_long region pieces (page_behind region pieces page name) names)
 
-pub name_small : (region : Base) (pieces : List Section) (names : List (Bor (List ℕ))) (i : ℕ) → is_too_large region pieces ≡ false → names_in names ≡ names_of pieces → i < length names → pages_of pieces (name_at names i).now ≤ 0x400800
+pub name_small : (region : Base) (pieces : List Section) (names : List (Bor (List ℕ))) (i : ℕ) → is_too_large region pieces ≡ false → names_in names ≡ names_of pieces → i < length names → size_of pieces (name_at names i).now ≤ 0x1000000
 name_small region pieces names i room same lt =
     let name : Bor (List ℕ) → List ℕ = λ n. n.now in
     let long = length-map names name in
     let at : get_or (names_in names) i [] ≡ (name_at names i).now = read-map name names i (record { ref_ptr = (0, 0); now = [] }) [] lt in
     let listed : is_listed (names_of pieces) (name_at names i).now ≡ true =
     ap (λ (ns : List Name). is_listed ns (name_at names i).now) (sym same) ∙ ap (is_listed (names_in names)) (sym at) ∙ listed_at (names_in names) i [] (omega arith) in
-    let few = few_pages region pieces (name_at names i).now room listed in
-    omega arith
+    few_bytes region pieces (name_at names i).now room listed
 
 pub placed_more : (region : Base) (pieces : List Section) (names : List (Bor (List ℕ))) (pages : List ℕ) (i : ℕ) → names_in names ≡ names_of pieces → pages ≡ pages_of_names region pieces → i < length names
     → take (i + 1) (placed_names region pieces) ≡ take i (placed_names region pieces) ++ ((name_at names i).now, slice_index pages i) ∷ []
@@ -147,13 +140,6 @@ piece_joined name align joined next xs rest x ys others y total first second her
     ∙ ap (λ (ss : List (Bor Section)). fold (with_piece name align) joined (zip (sections_in ss) (bytes_in ys))) (sym first) ∙ so_far
 
 -- ---- the areas of modules
-
-pub filling_of : (region : Base) (modules : List Module) (layout kept : Layout) (filled : List (Vec ℕ)) → layout ≡ kept → IsLayout kept region modules → All Formed modules → bytes_in filled ≡ filled_from region modules 0 modules
-    → IsFilling (sections_in layout.pieces.items) (bytes_in filled)
-filling_of region modules layout kept filled same is formed bytes =
-    let P : List Section → Type 0 = λ ss. IsFilling ss (bytes_in filled) in
-    let Q : List (List ℕ) → Type 0 = λ bs. IsFilling (pieces_of modules) bs in
-    subst P (sym (ap (λ (l : Layout). sections_in l.pieces.items) same ∙ is.pieces)) (subst Q (sym bytes) (filled_long region modules 0 modules formed))
 
 pub areas_are : (region : Base) (modules : List Module) (layout kept : Layout) (filled : List (Vec ℕ)) → layout ≡ kept → IsLayout kept region modules → bytes_in filled ≡ filled_from region modules 0 modules
     → areas_of layout.base (sections_in layout.pieces.items) (bytes_in filled) ≡ areas_in region modules

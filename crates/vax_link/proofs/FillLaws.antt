@@ -72,7 +72,7 @@ bytes_at (t ∷ sections) zero d lt s is = ap (λ (u : Section). u.bytes) (let e
 bytes_at (t ∷ sections) (suc k) d lt s is = bytes_at sections k d (omega arith) s is
 
 blank : Section
-blank = record { name = []; align = 1; write = false; bytes = [] }
+blank = record { name = []; align = 1; write = false; bytes = []; storage = 0 }
 
 pub fields_in : (sections : List Section) (relocs : List Reloc) → All (IsFieldOf sections) relocs → AreIn 0 (map (λ s. s.bytes) sections) relocs
 fields_in sections relocs fields = λ k d lt j r at here.

@@ -18,12 +18,12 @@ use Rattle.vax_image.specs.declared.Base.{Base}
 use Rattle.vax_image.specs.declared.Base.TheVariants.{Bare, User}
 use Rattle.vax_image.specs.Image.{first_page, end_page, IsAreaFrom, AscendFrom, IsImage, is_in}
 use Rattle.vax_link.specs.Names.{Name}
-use Rattle.vax_link.specs.Layout.{align_of, aligned, aligned_for, behind_piece, end_behind, end_page_from, has_no_room, is_control_block, is_listed, is_named, is_too_large, is_writable, names_of, origin, page_behind, pages_from, pages_of, placed_names, size_of, with_name}
+use Rattle.vax_link.specs.Layout.{align_of, aligned, aligned_for, behind_piece, covered_by, end_behind, end_page_from, has_no_room, is_control_block, is_listed, is_named, is_too_large, is_writable, names_of, origin, page_behind, pages_from, pages_of, placed_names, size_of, with_name}
 use Rattle.vax_link.specs.Placed.{IsFilling}
 use Rattle.vax_link.specs.Linked.{area_of, area_unless_empty, areas_of, bytes_of, is_chosen, ordered, protection, with_piece}
 use Rattle.vax_link.proofs.LayoutLaws.{aligned_above, page_grows}
 
--- ---- a section has as many bytes as its size says
+-- ---- a section has no more bytes than its size says
 
 joined_long : (b : Bool) (align : ℕ) (front bytes : List ℕ) (len : ℕ) → 0 < align → length bytes ≡ len
     → length (cond b (front ++ (replicate (aligned align (length front) - length front) 0 ++ bytes)) front) ≡ cond b (aligned align (length front) + len) (length front)
@@ -56,9 +56,27 @@ pub aligns : (name : Name) (align : ℕ) (pieces : List Section) → 1 ≤ align
 aligns name align [] some = some
 aligns name align (piece ∷ pieces) some = aligns name (aligned_for name align piece) pieces (some_align (is_named name piece) align piece.align some)
 
-pub section_long : (pieces : List Section) (filled : List (List ℕ)) (name : Name) → IsFilling pieces filled → length (bytes_of pieces filled name) ≡ size_of pieces name
+-- a section ends behind its pieces
+pub end_in_size : (pieces : List Section) (name : Name) → end_behind name (align_of name pieces) 0 pieces ≤ size_of pieces name
 unfolding size_of
-section_long pieces filled name same = bytes_long name (align_of name pieces) [] pieces filled (aligns name 1 pieces (omega arith)) same
+end_in_size pieces name = first_in (end_behind name (align_of name pieces) 0 pieces) (covered_by name 0 pieces)
+  where
+    first_in : (a b : ℕ) → a ≤ max a b
+    first_in a b = omega arith
+
+-- no overlaid piece covers more
+pub covered_in_size : (pieces : List Section) (name : Name) → covered_by name 0 pieces ≤ size_of pieces name
+unfolding size_of
+covered_in_size pieces name = second_in (end_behind name (align_of name pieces) 0 pieces) (covered_by name 0 pieces)
+  where
+    second_in : (a b : ℕ) → b ≤ max a b
+    second_in a b = omega arith
+
+pub section_long : (pieces : List Section) (filled : List (List ℕ)) (name : Name) → IsFilling pieces filled → length (bytes_of pieces filled name) ≤ size_of pieces name
+section_long pieces filled name same =
+    let long : length (bytes_of pieces filled name) ≡ end_behind name (align_of name pieces) 0 pieces = bytes_long name (align_of name pieces) [] pieces filled (aligns name 1 pieces (omega arith)) same in
+    let within = end_in_size pieces name in
+    omega arith
 
 -- ---- there is one control block
 
@@ -150,9 +168,9 @@ pages_small region pieces page last (x ∷ names) name none fits some listed =
 
 -- ---- the other sections ascend
 
--- each section has as many bytes as its size says
+-- each section has no more bytes than its size says
 abbrev pub AreLong : List Section → List (List ℕ) → Type 0
-AreLong pieces filled = (name : Name) → length (bytes_of pieces filled name) ≡ size_of pieces name
+AreLong pieces filled = (name : Name) → length (bytes_of pieces filled name) ≤ size_of pieces name
 
 -- the control blocks, or the other sections, of these names, of which the first begins at a page
 abbrev pub areas_from : Base → List Section → List (List ℕ) → Bool → ℕ → List Name → List Area

@@ -10,7 +10,7 @@ use Rattle.std.proofs.lemmas.Grind.{div_ceil_times}
 use Rattle.vax_module.specs.declared.Section.{Section}
 use Rattle.vax_link.specs.Names.{Name}
 use Rattle.vax_image.specs.declared.Base.{Base}
-use Rattle.vax_link.specs.Layout.{is_named, is_listed, with_name, names_of, aligned, behind_piece, end_behind, pages_of, is_control_block, page_behind, pages_from, end_page_from, first_page_of, offset_behind, addresses_from}
+use Rattle.vax_link.specs.Layout.{is_named, is_listed, with_name, names_of, aligned, behind_piece, end_behind, pages_of, is_control_block, page_behind, pages_from, end_page_from, first_page_of, offset_of, addresses_from}
 
 -- the next multiple isn't below
 pub aligned_above : (align place : ℕ) → 0 < align → place ≤ aligned align place
@@ -98,7 +98,7 @@ page_past region pieces page bound front back name past =
 -- ---- addresses
 
 abbrev pub address_at : Base → List Section → List Section → Section → ℕ
-address_at region pieces before piece = 512 * first_page_of region pieces piece.name + offset_behind pieces before piece.name
+address_at region pieces before piece = 512 * first_page_of region pieces piece.name + offset_of pieces before piece
 
 pub addresses_more : (region : Base) (pieces before rest : List Section) (piece : Section)
     → addresses_from region pieces before (rest ++ piece ∷ []) ≡ addresses_from region pieces before rest ++ address_at region pieces (before ++ rest) piece ∷ []

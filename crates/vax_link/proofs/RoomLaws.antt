@@ -14,9 +14,9 @@ use Rattle.vax_image.specs.declared.Base.{Base}
 use Rattle.vax_image.specs.declared.Base.TheVariants.{Bare, User}
 use Rattle.vax_image.specs.Image.{end_page}
 use Rattle.vax_link.specs.Names.{Name}
-use Rattle.vax_link.specs.Layout.{IsPlaced, addresses, addresses_from, first_page_of, offset_behind, pages_of_names, align_of, aligned, end_behind, is_listed, is_named, is_writable, with_name, end_page_from, has_no_room, is_control_block, is_too_large, names_in, names_of, origin, page_behind, pages_from, pages_of, sections_in, size_of}
+use Rattle.vax_link.specs.Layout.{IsPlaced, addresses, addresses_from, first_page_of, offset_of, pages_of_names, align_of, aligned, end_behind, is_listed, is_named, is_writable, with_name, end_page_from, has_no_room, is_control_block, is_too_large, names_in, names_of, origin, page_behind, pages_from, pages_of, sections_in, size_of}
 use Rattle.vax_link.proofs.LayoutLaws.{address_at, addresses_more, listed_piece, prefix_ends, end_past, page_grows, page_more, page_past, pages_more, too_many}
-use Rattle.vax_link.proofs.ImageLaws.{aligns, few_bytes, is_long, size_fits}
+use Rattle.vax_link.proofs.ImageLaws.{aligns, end_in_size, few_bytes, is_long, size_fits}
 
 -- ---- what a loop over borrowed sections and names has passed
 
@@ -323,7 +323,6 @@ no_addresses region pieces = refl
 
 pub prefix_small : (region : Base) (pieces : List (Bor Section)) (i : ℕ) (x : Bor Section) → i < length pieces → x ≡ get_or pieces i x → is_too_large region (sections_in pieces) ≡ false
     → end_behind x.now.name (align_of x.now.name (sections_in pieces)) 0 (sections_in (take i pieces)) ≤ 0x1000000
-unfolding size_of
 prefix_small region pieces i x lt is room =
     let name = x.now.name in
     let all = sections_in pieces in
@@ -332,7 +331,9 @@ prefix_small region pieces i x lt is room =
     let parts = sections_parted pieces i x lt is in
     let some = aligns name 1 all (omega arith) in
     let listed : is_listed (names_of all) name ≡ true = ap (λ (ss : List Section). is_listed (names_of ss) name) parts ∙ listed_piece front back x.now in
-    let whole : end_behind name (align_of name all) 0 all ≤ 0x1000000 = few_bytes region all name room listed in
+    let few = few_bytes region all name room listed in
+    let within = end_in_size all name in
+    let whole : end_behind name (align_of name all) 0 all ≤ 0x1000000 = omega arith in
     let P : List Section → Type 0 = λ ss. end_behind name (align_of name all) 0 ss ≤ 0x1000000 in
     let parted : end_behind name (align_of name all) 0 (front ++ (x.now ∷ back)) ≤ 0x1000000 = subst P parts whole in
     let prefix = prefix_ends name (align_of name all) front (x.now ∷ back) some in
@@ -340,7 +341,7 @@ prefix_small region pieces i x lt is room =
 
 pub address_more : (region : Base) (pieces : List (Bor Section)) (i : ℕ) (x : Bor Section) (out next : List ℕ) (page offset : ℕ) → i < length pieces → x ≡ get_or pieces i x
     → out ≡ addresses_from region (sections_in pieces) [] (sections_in (take i pieces)) → next ≡ out ++ (page * 512 + offset) ∷ [] → page ≡ first_page_of region (sections_in pieces) x.now.name
-    → offset ≡ offset_behind (sections_in pieces) (sections_in (take i pieces)) x.now.name → next ≡ addresses_from region (sections_in pieces) [] (sections_in (take (i + 1) pieces))
+    → offset ≡ offset_of (sections_in pieces) (sections_in (take i pieces)) x.now → next ≡ addresses_from region (sections_in pieces) [] (sections_in (take (i + 1) pieces))
 address_more region pieces i x out next page offset lt is so_far more page_is offset_is =
     let all = sections_in pieces in
     let front = sections_in (take i pieces) in

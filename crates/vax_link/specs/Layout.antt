@@ -48,7 +48,7 @@ is_writable name pieces = list_any (λ piece. is_named name piece && piece.write
 abbrev pub aligned : ℕ → ℕ → ℕ
 aligned align place = div_ceil place align * align
 
--- a piece begins at the next multiple of its section's alignment; one without bytes doesn't lengthen the section
+-- a piece begins at the next multiple of its section's alignment; behind one without bytes the end is where it was
 abbrev pub behind_piece : Name → ℕ → ℕ → Section → ℕ
 behind_piece name align end piece =
     if is_named name piece && not (length piece.bytes == 0) then aligned align end + length piece.bytes else end
@@ -57,9 +57,21 @@ behind_piece name align end piece =
 abbrev pub end_behind : Name → ℕ → ℕ → List Section → ℕ
 end_behind name align end pieces = fold (behind_piece name align) end pieces
 
--- how many bytes a section has
+-- a piece that is laid over others: it has no bytes of its own, and tells how many it covers
+abbrev pub is_overlaid : Section → Bool
+is_overlaid piece = length piece.bytes == 0 && not (piece.storage == 0)
+
+-- the most bytes that an overlaid piece of a section covers, with one more piece
+abbrev pub covered_behind : Name → ℕ → Section → ℕ
+covered_behind name most piece = if is_named name piece && is_overlaid piece then max most piece.storage else most
+
+-- how many bytes of a section these pieces cover from its begin on
+abbrev pub covered_by : Name → ℕ → List Section → ℕ
+covered_by name most pieces = fold (covered_behind name) most pieces
+
+-- how many bytes a section has: it ends behind its pieces, and no overlaid one covers more
 unfoldable pub size_of : List Section → Name → ℕ
-size_of pieces name = end_behind name (align_of name pieces) 0 pieces
+size_of pieces name = max (end_behind name (align_of name pieces) 0 pieces) (covered_by name 0 pieces)
 
 abbrev pub pages_of : List Section → Name → ℕ
 pages_of pieces name = div_ceil (size_of pieces name) 512
@@ -74,7 +86,7 @@ abbrev pub origin : Base → ℕ
 origin Bare = 0x400001
 origin User = 1
 
--- the page behind a section that begins at a page: each section with bytes begins on a page of its own
+-- the page behind a section that begins at a page: each section that isn't empty begins on a page of its own
 abbrev pub page_behind : Base → List Section → ℕ → Name → ℕ
 page_behind region pieces page name = if is_control_block region name then page else page + pages_of pieces name
 
@@ -103,11 +115,15 @@ first_page_of region pieces name = slice_index (pages_of_names region pieces) (p
 abbrev pub offset_behind : List Section → List Section → Name → ℕ
 offset_behind pieces before name = aligned (align_of name pieces) (end_behind name (align_of name pieces) 0 before)
 
+-- where a piece begins in its section: an overlaid one at the section's begin, any other behind these
+abbrev pub offset_of : List Section → List Section → Section → ℕ
+offset_of pieces before piece = if is_overlaid piece then 0 else offset_behind pieces before piece.name
+
 -- the addresses of pieces behind others
 unfoldable pub addresses_from : Base → List Section → List Section → List Section → List ℕ
 addresses_from region pieces before [] = []
 addresses_from region pieces before (piece ∷ rest) =
-    (512 * first_page_of region pieces piece.name + offset_behind pieces before piece.name) ∷ addresses_from region pieces (before ++ piece ∷ []) rest
+    (512 * first_page_of region pieces piece.name + offset_of pieces before piece) ∷ addresses_from region pieces (before ++ piece ∷ []) rest
 
 -- where each piece lies
 abbrev pub addresses : Base → List Section → List ℕ

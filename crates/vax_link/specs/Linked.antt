@@ -14,7 +14,7 @@ use Rattle.vax_link.specs.Names.{Name, duplicate, undefined}
 use Rattle.vax_link.specs.Layout.{pieces_of, is_named, align_of, is_writable, aligned, is_control_block, pages_of, placed_names, is_too_large}
 use Rattle.vax_link.specs.Values.{value_of, filled_from, unreached_from}
 
--- a section's bytes with those of one more piece: gaps hold 0
+-- a section's bytes with those of one more piece: gaps hold 0, and so does what overlaid pieces cover behind these bytes
 abbrev pub with_piece : Name → ℕ → List ℕ → Section × List ℕ → List ℕ
 with_piece name align front (piece, bytes) =
     if is_named name piece && not (length bytes == 0) then front ++ (replicate (aligned align (length front) - length front) 0 ++ bytes) else front
@@ -39,7 +39,7 @@ area_of region pieces filled (name, first) = record {
   bytes = bytes_of pieces filled name;
 }
 
--- none for a section without bytes
+-- none for an empty section
 abbrev pub area_unless_empty : Base → List Section → List (List ℕ) → Name × ℕ → Option Area
 area_unless_empty region pieces filled (name, first) = if pages_of pieces name == 0 then None else Some (area_of region pieces filled (name, first))
 

@@ -3,10 +3,10 @@ ghost use Rattle.std.specs.Prelude.{◌≡◌, ◌≤◌, ◌++◌, IfOk, OnOk, 
 ghost use Rattle.std.specs.List.{filter, filter_map};
 ghost use Rattle.vax_link.specs.Layout as lay;
 ghost use Rattle.vax_link.specs.Layout.{sections_in};
-ghost use Rattle.vax_link.specs.Placed.{bytes_in, IsFilling};
+ghost use Rattle.vax_link.specs.Placed.{bytes_in};
 ghost use Rattle.vax_link.specs.Linked as spec;
 
-use crate::layout::{align_of, is_control_block};
+use crate::layout::{align_of, is_control_block, size_of};
 use crate::placed::Layout;
 use std::alloc::{AllocError, Global};
 use vax_image::Base;
@@ -62,7 +62,7 @@ fn is_writable(pieces: &[&Section], name: &[u8]) -> bool
     false
 }
 
-/// A section's area, if it has bytes.
+/// A section's area, unless the section is empty.
 fn area_of(
     alloc: Global,
     layout: &Layout,
@@ -70,21 +70,23 @@ fn area_of(
     name: &[u8],
     first: u32,
 ) -> Result<Option<Area>, AllocError>
-    requires filling { IsFilling (sections_in layout.now.pieces.items) (bytes_in filled.now) }
-    requires small { lay.pages_of (sections_in layout.now.pieces.items) name.now ≤ 0x400800 }
+    requires { lay.size_of (sections_in layout.now.pieces.items) name.now ≤ 0x1000000 }
     ensures { IfOk result (λ area. area
         ≡ spec.area_unless_empty layout.now.base (sections_in layout.now.pieces.items)
         (bytes_in filled.now) (name.now, first)) }
 {
-    let bytes = bytes_of(alloc, layout, filled, name)?;
-    if bytes.is_empty() {
+    let Some(size) = size_of(&layout.pieces, name) else {
+        return Ok(None);
+    };
+    if size == 0 {
         return Ok(None);
     }
+    let bytes = bytes_of(alloc, layout, filled, name)?;
     let control = is_control_block(layout.base, name);
     let write = is_writable(&layout.pieces, name);
     Ok(Some(Area {
         first,
-        pages: bytes.len().div_ceil(512) as u32,
+        pages: size.div_ceil(512),
         prot: protection(layout.base, control, write),
         bytes: bytes.into(),
     }))
@@ -108,7 +110,6 @@ fn push_areas(
     filled: &[Vec<u8>],
     control: bool,
 ) -> Result<(), AllocError>
-    requires { IsFilling (sections_in layout.now.pieces.items) (bytes_in filled.now) }
     ensures { let pieces = sections_in layout.now.pieces.items in OnOk result (areas.new.items
         ≡ areas.old.items ++ filter_map (spec.area_unless_empty layout.now.base pieces
         (bytes_in filled.now)) (filter (spec.is_chosen layout.now.base control)
@@ -131,7 +132,6 @@ pub(crate) fn areas_of(
     layout: &Layout,
     filled: &[Vec<u8>],
 ) -> Result<Vec<Area>, AllocError>
-    requires { IsFilling (sections_in layout.now.pieces.items) (bytes_in filled.now) }
     ensures { IfOk result (λ areas. areas.items
         ≡ spec.areas_of layout.now.base (sections_in layout.now.pieces.items)
         (bytes_in filled.now)) }

@@ -127,14 +127,39 @@ fn end_of(pieces: &[&Section], name: &[u8], align: u16) -> Option<u32>
     Some(end)
 }
 
+/// Whether a piece is laid over others: it has no bytes of its own, and tells how many it covers.
+fn is_overlaid(piece: &Section) -> bool
+    ensures { result ≡ spec.is_overlaid piece.now }
+{
+    piece.bytes.as_slice().is_empty() && piece.storage != 0
+}
+
+/// How many bytes of a section its overlaid pieces cover from its begin on.
+fn covered_by(pieces: &[&Section], name: &[u8]) -> u32
+    ensures { result ≡ spec.covered_by name.now 0 (sections_in pieces.now) }
+{
+    let mut most = 0;
+    for piece in pieces {
+        if piece.name.as_slice() == name && is_overlaid(piece) {
+            most = most.max(piece.storage);
+        }
+    }
+    most
+}
+
 /// How many bytes a section has; none where they are more than the most of a section.
 #[tactic(auto, unfolding(crate::specs::Layout::size_of))]
-fn size_of(pieces: &[&Section], name: &[u8]) -> Option<u32>
+pub(crate) fn size_of(pieces: &[&Section], name: &[u8]) -> Option<u32>
     ensures none { IfNone result (0x1000000 < spec.size_of (sections_in pieces.now) name.now) }
     ensures some { IfSome result (λ size. size ≡ spec.size_of (sections_in pieces.now) name.now) }
     ensures few { IfSome result (λ size. size ≤ 0x1000000) }
 {
-    end_of(pieces, name, align_of(pieces, name))
+    let end = end_of(pieces, name, align_of(pieces, name))?;
+    let covered = covered_by(pieces, name);
+    if covered > MOST {
+        return None;
+    }
+    Some(end.max(covered))
 }
 
 /// The first page of the first section.
@@ -224,6 +249,20 @@ fn offset_behind(pieces: &[&Section], before: &[&Section], name: &[u8]) -> u32
     }
 }
 
+/// Where a piece begins that stands behind these: at the begin of its section, where it is overlaid.
+fn offset_of(pieces: &[&Section], before: &[&Section], piece: &Section) -> u32
+    ensures offset { let align = spec.align_of piece.now.name (sections_in pieces.now) in
+        spec.end_behind piece.now.name align 0 (sections_in before.now) ≤ 0x1000000 →
+        result ≡ spec.offset_of (sections_in pieces.now) (sections_in before.now) piece.now }
+    ensures small { result ≤ 0x1010000 }
+{
+    if is_overlaid(piece) {
+        0
+    } else {
+        offset_behind(pieces, before, piece.name.as_slice())
+    }
+}
+
 /// Where each piece lies.
 fn addresses_of(
     alloc: Global,
@@ -240,9 +279,8 @@ fn addresses_of(
 {
     let mut addresses = Vec::new(alloc);
     for (place, piece) in pieces.iter().enumerate() {
-        let name = piece.name.as_slice();
-        let offset = offset_behind(pieces, &pieces[..place], name);
-        addresses.push(page_of(names, pages, name) * 512 + offset)?;
+        let offset = offset_of(pieces, &pieces[..place], piece);
+        addresses.push(page_of(names, pages, piece.name.as_slice()) * 512 + offset)?;
     }
     Ok(addresses)
 }

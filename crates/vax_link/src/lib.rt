@@ -1,8 +1,9 @@
 //! Joins modules to an image.
 //!
-//! Sections of one name become one section, in the order in which the names first appear. Each section with bytes begins on
-//! a page of its own and is one area. A user's program begins at address 200 (hexadecimal), a bare one at 80000200, where the
-//! section `$SCB` is the system control block at 80000000.
+//! Sections of one name become one section, in the order in which the names first appear: what a module gives to it stands
+//! behind what those before gave, and what is overlaid, which has no bytes, lies over that from the begin on. Each section
+//! that isn't empty begins on a page of its own and is one area. A user's program begins at address 200 (hexadecimal), a
+//! bare one at 80000200, where the section `$SCB` is the system control block at 80000000.
 #![tactic(auto)]
 
 ghost use Rattle.std.specs.Prelude.{◌≡◌};

@@ -12,14 +12,14 @@ use Rattle.std.proofs.lemmas.Slice.Eq.{bytes_eq-Decides}
 use Rattle.vax_image.specs.declared.Base.{Base}
 use Rattle.vax_image.specs.declared.Base.TheVariants.{Bare, User}
 use Rattle.vax_image.specs.declared.Image.{Image}
-use Rattle.vax_link.proofs.ImageLaws.{HasRoom, aligns, is_long, one_page, room_of, size_fits}
+use Rattle.vax_link.proofs.ImageLaws.{HasRoom, aligns, end_in_size, is_long, one_page, room_of, size_fits}
 use Rattle.vax_link.proofs.LayoutLaws.{address_at, aligned_above, end_grows, listed_piece}
 use Rattle.vax_link.specs.Layout.{addresses, align_of, aligned, behind_piece, end_behind, first_page_of, first_piece, is_control_block, is_listed, is_named, names_of, offset_behind, origin, page_behind, pages_from, pages_of, pages_of_names, pieces_of, placed_names, size_of}
 use Rattle.vax_link.specs.Linked.{linked}
 use Rattle.vax_link.specs.Names.{Name}
 use Rattle.vax_link.specs.Values.{section_address}
 use Rattle.vax_link_laws.proofs.Finding.{Has, has_place}
-use Rattle.vax_link_laws.proofs.Laying.{address_there, is_linked, pages_long}
+use Rattle.vax_link_laws.proofs.Laying.{address_there, behind_at, is_linked, lies_behind, pages_long}
 use Rattle.vax_link_laws.proofs.Parting.{in_modules}
 use Rattle.vax_link_laws.specs.Holding.{AreOthers, HasSection, LieApart}
 use Rattle.vax_module.specs.declared.Module.{Module}
@@ -49,14 +49,14 @@ ends_behind align front rest s some full =
     omega arith
 
 same_name : (region : Base) (pieces front middle : List Section) (s t : Section) → 0 < length s.bytes → s.name ≡ t.name
-    → address_at region pieces front s + length s.bytes ≤ address_at region pieces (front ++ (s ∷ middle)) t
+    → behind_at region pieces front s + length s.bytes ≤ behind_at region pieces (front ++ (s ∷ middle)) t
 same_name region pieces front middle s t full same =
     let align : ℕ = align_of s.name pieces in
     let some : 0 < align = aligns s.name 1 pieces (omega arith) in
     let ends = ends_behind align front middle s some full in
     let above = aligned_above align (end_behind s.name align 0 (front ++ (s ∷ middle))) some in
-    let here : address_at region pieces front s + length s.bytes ≤ 512 * first_page_of region pieces s.name + offset_behind pieces (front ++ (s ∷ middle)) s.name = omega arith in
-    subst (λ (n : Name). address_at region pieces front s + length s.bytes ≤ 512 * first_page_of region pieces n + offset_behind pieces (front ++ (s ∷ middle)) n) same here
+    let here : behind_at region pieces front s + length s.bytes ≤ 512 * first_page_of region pieces s.name + offset_behind pieces (front ++ (s ∷ middle)) s.name = omega arith in
+    subst (λ (n : Name). behind_at region pieces front s + length s.bytes ≤ 512 * first_page_of region pieces n + offset_behind pieces (front ++ (s ∷ middle)) n) same here
 
 -- ---- in sections of two names
 
@@ -157,12 +157,11 @@ record IsWithin (region : Base) (pieces front : List Section) (s : Section) : Ty
   ends : offset_behind pieces front s.name + length s.bytes ≤ 512 * pages_of pieces s.name
 
 within : (region : Base) (pieces front back : List Section) (s : Section) → pieces ≡ front ++ (s ∷ back) → 0 < length s.bytes → IsWithin region pieces front s
-unfolding size_of
 within region pieces front back s parted full =
     let align : ℕ = align_of s.name pieces in
     let some : 0 < align = aligns s.name 1 pieces (omega arith) in
     let ends = ends_behind align front back s some full in
-    let whole : end_behind s.name align 0 (front ++ (s ∷ back)) ≡ size_of pieces s.name = ap (end_behind s.name align 0) (sym parted) in
+    let whole : end_behind s.name align 0 (front ++ (s ∷ back)) ≤ size_of pieces s.name = subst (λ (ps : List Section). end_behind s.name align 0 ps ≤ size_of pieces s.name) parted (end_in_size pieces s.name) in
     let fits = size_fits pieces s.name in
     let listed : is_listed (names_of pieces) s.name ≡ true = ap (λ (ps : List Section). is_listed (names_of ps) s.name) parted ∙ listed_piece front back s in
     record {
@@ -187,10 +186,10 @@ split_later (y ∷ front) back (x ∷ later) rest s t same less =
     record { middle = next.middle; is = ap (λ (z : Section). z ∷ later) e ∙ ap (λ (l : List Section). y ∷ l) next.is }
 
 by_name : (b : Bool) (region : Base) (pieces front back later rest : List Section) (s t : Section) → bytes_eq s.name t.name ≡ b → HasRoom region pieces → pieces ≡ front ++ (s ∷ back) → pieces ≡ later ++ (t ∷ rest) → length front < length later
-    → 0 < length s.bytes → 0 < length t.bytes → LieApart (address_at region pieces front s) (length s.bytes) (address_at region pieces later t) (length t.bytes)
+    → 0 < length s.bytes → 0 < length t.bytes → LieApart (behind_at region pieces front s) (length s.bytes) (behind_at region pieces later t) (length t.bytes)
 by_name true region pieces front back later rest s t same room one two less full filled =
     let split = split_later front back later rest s t (sym one ∙ two) less in
-    inl (subst (λ (l : List Section). address_at region pieces front s + length s.bytes ≤ address_at region pieces l t) (sym split.is) (same_name region pieces front split.middle s t full ((bytes_eq-Decides s.name t.name).0 same)))
+    inl (subst (λ (l : List Section). behind_at region pieces front s + length s.bytes ≤ behind_at region pieces l t) (sym split.is) (same_name region pieces front split.middle s t full ((bytes_eq-Decides s.name t.name).0 same)))
 by_name false region pieces front back later rest s t other room one two less full filled =
     let a = within region pieces front back s one full in
     let b = within region pieces later rest t two filled in
@@ -234,14 +233,14 @@ positions_differ modules owner number other index s t one two differ same = elim
   | inr above ↦ (let before = ahead modules other owner index t two above.1 in omega arith)
 ]
 
-record IsAt (region : Base) (modules : List Module) (owner number : ℕ) (s : Section) : Type 0 where
-  front : List Section
-  back : List Section
-  parted : pieces_of modules ≡ front ++ (s ∷ back)
-  many : length front ≡ first_piece modules owner + number
-  address : section_address region modules owner number ≡ address_at region (pieces_of modules) front s
+pub record IsAt (region : Base) (modules : List Module) (owner number : ℕ) (s : Section) : Type 0 where
+  pub front : List Section
+  pub back : List Section
+  pub parted : pieces_of modules ≡ front ++ (s ∷ back)
+  pub many : length front ≡ first_piece modules owner + number
+  pub address : section_address region modules owner number ≡ address_at region (pieces_of modules) front s
 
-is_at : (region : Base) (modules : List Module) (owner number : ℕ) (s : Section) → HasSection modules owner number s → IsAt region modules owner number s
+pub is_at : (region : Base) (modules : List Module) (owner number : ℕ) (s : Section) → HasSection modules owner number s → IsAt region modules owner number s
 is_at region modules owner number s has =
     let p = in_modules region modules 0 modules owner owner number s has (omega arith) in
     let pieces : List Section = pieces_of modules in
@@ -262,11 +261,11 @@ apart region modules image owner number other index s t is one two full filled d
     let a = is_at region modules owner number s one in
     let b = is_at region modules other index t two in
     let ne : first_piece modules owner + number ≢ first_piece modules other + index = positions_differ modules owner number other index s t one two differ in
-    let A : ℕ = address_at region (pieces_of modules) a.front s in
-    let B : ℕ = address_at region (pieces_of modules) b.front t in
+    let A : ℕ = behind_at region (pieces_of modules) a.front s in
+    let B : ℕ = behind_at region (pieces_of modules) b.front t in
     let here : LieApart A (length s.bytes) B (length t.bytes) = elim (leb_tells (length a.front) (length b.front)) [
       | inl below ↦ by_name (bytes_eq s.name t.name) region (pieces_of modules) a.front a.back b.front b.back s t refl room a.parted b.parted (omega (arith, below.1, a.many, b.many)) full filled
       | inr above ↦ swapped B (length t.bytes) A (length s.bytes) (by_name (bytes_eq t.name s.name) region (pieces_of modules) b.front b.back a.front a.back t s refl room b.parted a.parted above.1 filled full)
     ] in
-    subst (λ (x : ℕ). LieApart x (length s.bytes) (section_address region modules other index) (length t.bytes)) (sym a.address)
-    (subst (λ (y : ℕ). LieApart A (length s.bytes) y (length t.bytes)) (sym b.address) here)
+    subst (λ (x : ℕ). LieApart x (length s.bytes) (section_address region modules other index) (length t.bytes)) (sym (a.address ∙ lies_behind region (pieces_of modules) a.front s full))
+    (subst (λ (y : ℕ). LieApart A (length s.bytes) y (length t.bytes)) (sym (b.address ∙ lies_behind region (pieces_of modules) b.front t filled)) here)

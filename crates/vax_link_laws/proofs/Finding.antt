@@ -67,7 +67,7 @@ has_place (n ∷ ns) (q ∷ qs) name listed same =
 
 -- ---- the area of an address
 
-page_here : (area : Area) (page : ℕ) → area.first ≤ page → page < end_of area → has_page area page ≡ true
+pub page_here : (area : Area) (page : ℕ) → area.first ≤ page → page < end_of area → has_page area page ≡ true
 unfolding has_page
 page_here area page low high = grind (arith, nat_tests)
 
@@ -108,6 +108,16 @@ found_later x area xs address other h = record {
   there = either (has_page x (page_of address)) (is_in xs address) h.there;
   held = ap (λ b. cond b (slice_index x.bytes (address - 512 * x.first)) (byte_at xs address)) other ∙ h.held;
 }
+
+-- an area has the address, wherever it stands among others
+pub among : (areas : List Area) (area : Area) (address : ℕ) → Has areas area → has_page area (page_of address) ≡ true → is_in areas address ≡ true
+among [] area address h here = absurd h
+among (x ∷ xs) area address (inl e) here = first_true (has_page x (page_of address)) (is_in xs address) (ap (λ (a : Area). has_page a (page_of address)) e ∙ here)
+  where
+    first_true : (a b : Bool) → a ≡ true → (a || b) ≡ true
+    first_true true b e = refl
+    first_true false b e = absurd cc
+among (x ∷ xs) area address (inr h) here = either (has_page x (page_of address)) (is_in xs address) (among xs area address h here)
 
 -- where areas ascend, the byte at an address is that of whichever has its page
 pub found : (region : Base) (low : ℕ) (areas : List Area) (area : Area) (address : ℕ) → AscendFrom region low areas → Has areas area → area.first ≤ page_of address → page_of address < end_of area → IsFound areas area address

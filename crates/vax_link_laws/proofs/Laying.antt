@@ -1,6 +1,6 @@
 -- A byte of a module's section stands in the image.
 use Rattle.std.proofs.Common.{◌≡◌, ℕ, zero, suc, ◌+◌, ◌-◌, ◌*◌, ◌^◌, ◌<◌, ◌≤◌, Bool, true, false, cond, List, [], ◌∷◌, ◌++◌, length, get_or, Option, Some, None, Ok, Err, Result, refl, sym, ap, subst, ◌∙◌, arith, inl, inr}
-use Rattle.std.specs.Prelude.{not, All, IfSome, ◌==◌, slice_get, slice_index}
+use Rattle.std.specs.Prelude.{not, ◌&&◌, All, IfSome, ◌==◌, slice_get, slice_index}
 use Rattle.std.specs.List.{filter, fold}
 use Rattle.std.proofs.lemmas.Bool.{eqb-true}
 use Rattle.std.proofs.lemmas.List.{append-nil, append_assoc}
@@ -14,7 +14,7 @@ use Rattle.vax_link.proofs.ImageLaws.{areas_ascend, section_long, size_fits}
 use Rattle.vax_link.proofs.LayoutLaws.{address_at, listed_piece}
 use Rattle.vax_link.specs.declared.LinkError.{LinkError}
 use Rattle.vax_link.specs.declared.LinkError.TheVariants.{Duplicate, Undefined, Pages, NoTransfer}
-use Rattle.vax_link.specs.Layout.{addresses, addresses_from, first_page_of, first_piece, is_control_block, is_listed, is_too_large, names_of, offset_behind, origin, page_behind, pages_from, pages_of, pages_of_names, pieces_of, placed_names}
+use Rattle.vax_link.specs.Layout.{addresses, addresses_from, first_page_of, first_piece, is_control_block, is_listed, is_overlaid, is_too_large, names_of, offset_behind, origin, page_behind, pages_from, pages_of, pages_of_names, pieces_of, placed_names}
 use Rattle.vax_link.specs.Linked.{area_of, area_unless_empty, areas_of, begun, bytes_of, is_chosen, linked, placed, reached, refuses, transfer_from}
 use Rattle.vax_link.specs.Names.{Name, duplicate, module_at, nothing, undefined}
 use Rattle.vax_link.specs.Placed.{IsFilling}
@@ -90,6 +90,25 @@ unfolding addresses_from
 address_there region pieces before [] back s = ap (λ (b : List Section). address_at region pieces b s) (sym (append-nil before))
 address_there region pieces before (x ∷ front) back s = address_there region pieces (before ++ x ∷ []) front back s ∙ ap (λ (b : List Section). address_at region pieces b s) (append_assoc before (x ∷ []) front)
 
+some_pages : (b : Bool) (n : ℕ) → (n == 0) ≡ b → 0 < n → b ≡ false
+some_pages true n is some = absurd (let e = eqb-true n 0 is in omega arith)
+some_pages false n is some = refl
+
+-- one that has bytes isn't overlaid
+not_overlaid : (s : Section) → 0 < length s.bytes → is_overlaid s ≡ false
+not_overlaid s full = front_false (length s.bytes == 0) (not (s.storage == 0)) (some_pages (length s.bytes == 0) (length s.bytes) refl full)
+  where
+    front_false : (a b : Bool) → a ≡ false → (a && b) ≡ false
+    front_false true b e = absurd cc
+    front_false false b e = refl
+
+-- where a section begins that lies behind others
+abbrev pub behind_at : Base → List Section → List Section → Section → ℕ
+behind_at region pieces front s = 512 * first_page_of region pieces s.name + offset_behind pieces front s.name
+
+pub lies_behind : (region : Base) (pieces front : List Section) (s : Section) → 0 < length s.bytes → address_at region pieces front s ≡ behind_at region pieces front s
+lies_behind region pieces front s full = ap (λ b. 512 * first_page_of region pieces s.name + cond b 0 (offset_behind pieces front s.name)) (not_overlaid s full)
+
 -- ---- its area
 
 pub pages_long : (region : Base) (pieces : List Section) (page : ℕ) (names : List Name) → length (pages_from region pieces page names) ≡ length names
@@ -100,10 +119,6 @@ pages_long region pieces page (name ∷ names) = ap suc (pages_long region piece
 chosen_either : (c : Bool) (region : Base) (name : Name) (first : ℕ) (places : List (Name × ℕ)) → is_control_block region name ≡ c → Has places (name, first) → Has (filter (is_chosen region true) places ++ filter (is_chosen region false) places) (name, first)
 chosen_either true region name first places is h = has_left (filter (is_chosen region true) places) (filter (is_chosen region false) places) (name, first) (has_filter (is_chosen region true) places (name, first) is h)
 chosen_either false region name first places is h = has_right (filter (is_chosen region true) places) (filter (is_chosen region false) places) (name, first) (has_filter (is_chosen region false) places (name, first) (ap not is) h)
-
-some_pages : (b : Bool) (n : ℕ) → (n == 0) ≡ b → 0 < n → b ≡ false
-some_pages true n is some = absurd (let e = eqb-true n 0 is in omega arith)
-some_pages false n is some = refl
 
 pub has_area : (region : Base) (pieces : List Section) (filled : List (List ℕ)) (s : Section) (front back : List Section) → pieces ≡ front ++ (s ∷ back) → 0 < pages_of pieces s.name
     → Has (areas_of region pieces filled) (area_of region pieces filled (s.name, first_page_of region pieces s.name))
@@ -135,7 +150,7 @@ area_below region low (x ∷ xs) area ascend (inr has) = area_below region (end_
 
 stands_parted : (region : Base) (front back : List Section) (s : Section) (before behind : List (List ℕ)) (bytes : List ℕ) (place : ℕ) → length before ≡ length front → IsFilling (front ++ (s ∷ back)) (before ++ (bytes ∷ behind))
     → is_too_large region (front ++ (s ∷ back)) ≡ false → place < length bytes
-    → IsByte (areas_of region (front ++ (s ∷ back)) (before ++ (bytes ∷ behind))) (address_at region (front ++ (s ∷ back)) front s + place) (get_or bytes place 0)
+    → IsByte (areas_of region (front ++ (s ∷ back)) (before ++ (bytes ∷ behind))) (behind_at region (front ++ (s ∷ back)) front s + place) (get_or bytes place 0)
 stands_parted region front back s before behind bytes place same filling room less =
     let pieces : List Section = front ++ (s ∷ back) in
     let filled : List (List ℕ) = before ++ (bytes ∷ behind) in
@@ -155,15 +170,16 @@ stands_parted region front back s before behind bytes place same filling room le
     let last = area_below region (first_page region) (areas_of region pieces filled) area (areas_ascend region pieces filled filling room) has in
     record { below = omega arith; there = at.there; held = at.held ∙ ap (λ (i : ℕ). get_or (bytes_of pieces filled s.name) i 0) there ∙ put.same }
 
-stands_among : (region : Base) (pieces : List Section) (filled : List (List ℕ)) (s : Section) (bytes : List ℕ) (count place : ℕ) → Parted pieces filled s bytes count → IsFilling pieces filled → is_too_large region pieces ≡ false → place < length bytes
+stands_among : (region : Base) (pieces : List Section) (filled : List (List ℕ)) (s : Section) (bytes : List ℕ) (count place : ℕ) → 0 < length s.bytes → Parted pieces filled s bytes count → IsFilling pieces filled → is_too_large region pieces ≡ false → place < length bytes
     → IsByte (areas_of region pieces filled) (slice_index (addresses region pieces) count + place) (get_or bytes place 0)
-stands_among region pieces filled s bytes count place p filling room less =
+stands_among region pieces filled s bytes count place full p filling room less =
     let P : List Section = p.front ++ (s ∷ p.back) in
     let F : List (List ℕ) = p.before ++ (bytes ∷ p.behind) in
     let in_parts : IsFilling P F = subst (λ (ps : List Section). IsFilling ps F) p.sections_are (subst (λ (fs : List (List ℕ)). IsFilling pieces fs) p.filled_are filling) in
     let here = stands_parted region p.front p.back s p.before p.behind bytes place (p.same ∙ sym p.many) in_parts (subst (λ (ps : List Section). is_too_large region ps ≡ false) p.sections_are room) less in
-    let address : address_at region P p.front s ≡ slice_index (addresses region pieces) count =
-    sym (ap (λ (n : ℕ). slice_index (addresses region pieces) n) (sym p.many) ∙ ap (λ (ps : List Section). slice_index (addresses region ps) (length p.front)) p.sections_are ∙ address_there region P [] p.front p.back s) in
+    let address : behind_at region P p.front s ≡ slice_index (addresses region pieces) count =
+    sym (lies_behind region P p.front s full)
+    ∙ sym (ap (λ (n : ℕ). slice_index (addresses region pieces) n) (sym p.many) ∙ ap (λ (ps : List Section). slice_index (addresses region ps) (length p.front)) p.sections_are ∙ address_there region P [] p.front p.back s) in
     subst (λ (ps : List Section). IsByte (areas_of region ps filled) (slice_index (addresses region pieces) count + place) (get_or bytes place 0)) (sym p.sections_are)
     (subst (λ (fs : List (List ℕ)). IsByte (areas_of region P fs) (slice_index (addresses region pieces) count + place) (get_or bytes place 0)) (sym p.filled_are)
     (subst (λ (a : ℕ). IsByte (areas_of region P F) (a + place) (get_or bytes place 0)) address here))
@@ -199,7 +215,7 @@ stands region modules image owner number place s formed is has less =
     let bytes : List ℕ = fold (with_reloc region modules owner number) s.bytes m.relocs in
     let long : length bytes ≡ length s.bytes = fields_long region modules owner number (length s.bytes) s.bytes m.relocs refl (within_of m.sections m.relocs number s (formed_at modules owner number s formed has).fields has) in
     let p = in_modules region modules 0 modules owner owner number s has (omega arith) in
-    let here = stands_among region (pieces_of modules) (filled_from region modules 0 modules) s bytes (first_piece modules owner + number) place p (filled_long region modules 0 modules formed) l.room (omega arith) in
+    let here = stands_among region (pieces_of modules) (filled_from region modules 0 modules) s bytes (first_piece modules owner + number) place (omega arith) p (filled_long region modules 0 modules formed) l.room (omega arith) in
     record {
       below = here.below;
       there = ap (λ (areas : List Area). is_in areas (section_address region modules owner number + place)) l.areas ∙ here.there;

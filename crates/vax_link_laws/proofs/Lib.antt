@@ -4,6 +4,7 @@ pub mod Finding
 pub mod Laying
 pub mod Standing
 pub mod Naming
+pub mod Overlaying
 pub mod Parting
 pub mod Apart
 pub mod Leading

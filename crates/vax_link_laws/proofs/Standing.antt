@@ -25,7 +25,7 @@ own_stands region modules image owner number place s formed is has less own =
     (stands region modules image owner number place s formed is has less)
 
 blank : Section
-blank = record { name = []; align = 1; write = false; bytes = [] }
+blank = record { name = []; align = 1; write = false; bytes = []; storage = 0 }
 
 pub field_stands : (region : Base) (modules : List Module) (image : Image) (owner place : ℕ) (r : Reloc) → All Formed modules → linked region modules ≡ Ok image → HasField modules owner r → place < width_of r.kind
     → Holds image ((section_address region modules owner r.section + r.offset) + place) (get_or (little_bytes (width_of r.kind) (field_content region modules owner r)) place 0)

@@ -2,11 +2,13 @@
 //! in the image at the addresses that names and fields have. Each is the contract of a call that does nothing.
 #![tactic(auto)]
 
-ghost use Rattle.std.specs.Prelude.{◌≡◌, ◌+◌, ◌<◌, ℕ, ℤ, All, List, Ok, length, slice_index};
+ghost use Rattle.std.specs.Prelude.{◌≡◌, ◌+◌, ◌<◌, ℕ, ℤ, true, All, List, Ok, length, slice_index};
 ghost use Rattle.byteorder.specs.Endian.{little_bytes};
 ghost use Rattle.vax_image.specs.declared.Base.{Base};
 ghost use Rattle.vax_image.specs.declared.Image.{Image};
+ghost use Rattle.vax_image.specs.Image.{is_in};
 ghost use Rattle.vax_lex.specs.declared.value.Value.TheVariants.{Section as InSection};
+ghost use Rattle.vax_link.specs.Layout.{is_overlaid};
 ghost use Rattle.vax_link.specs.Linked.{linked};
 ghost use Rattle.vax_link.specs.Names.{low_longword, plus};
 ghost use Rattle.vax_link.specs.Values.{field_content, name_value, section_address, value_of};
@@ -53,6 +55,19 @@ pub fn sections_lie_apart()
         0 < length s.bytes → 0 < length t.bytes → AreOthers owner number other index →
         LieApart (section_address region modules owner number) (length s.bytes)
         (section_address region modules other index) (length t.bytes) }
+{}
+
+/// Overlaid sections of one name, of whatever modules, have one address, and each byte that one of them covers from there on is in the image.
+pub fn overlaid_sections_share_their_begin()
+    ensures begin { (region : Base) → (modules : List Module) → (image : Image) →
+        (owner number other index : ℕ) → (s t : Section) → linked region modules ≡ Ok image →
+        HasSection modules owner number s → HasSection modules other index t →
+        is_overlaid s ≡ true → is_overlaid t ≡ true → s.name ≡ t.name →
+        section_address region modules owner number ≡ section_address region modules other index }
+    ensures room { (region : Base) → (modules : List Module) → (image : Image) →
+        (owner number place : ℕ) → (s : Section) → linked region modules ≡ Ok image →
+        HasSection modules owner number s → is_overlaid s ≡ true → place < s.storage →
+        is_in image.areas (section_address region modules owner number + place) ≡ true }
 {}
 
 /// A name that a module defines in one of its sections leads to the byte that the module put there.

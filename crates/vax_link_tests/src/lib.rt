@@ -12,6 +12,8 @@ mod image;
 #[cfg(test)]
 mod link;
 #[cfg(test)]
+mod overlaid;
+#[cfg(test)]
 mod program;
 #[cfg(test)]
 mod program_listing;

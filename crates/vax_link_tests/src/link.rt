@@ -10,7 +10,7 @@ use vax_module::{ExternalName, Module, Reloc, RelocKind, Section, Symbol, Value}
 use vax_space::Bytes;
 
 /// The start of a section.
-const HERE: Value = Value::Section {
+pub(crate) const HERE: Value = Value::Section {
     section: 1,
     offset: 0,
 };
@@ -21,11 +21,11 @@ const OTHER: Value = Value::External {
     offset: 0,
 };
 
-fn text(rt: &HostRuntime, bytes: &[u8]) -> Result<Bytes, Fail> {
+pub(crate) fn text(rt: &HostRuntime, bytes: &[u8]) -> Result<Bytes, Fail> {
     Ok(Vec::from_slice(rt.alloc(), bytes)?.into())
 }
 
-fn section(
+pub(crate) fn section(
     rt: &HostRuntime,
     name: &[u8],
     align: u16,
@@ -37,11 +37,12 @@ fn section(
         align,
         write,
         bytes: text(rt, bytes)?,
+        storage: 0,
     })
 }
 
 /// A module of a section in which it may begin, a global name, an external name, which may be weak, and a field.
-fn module(
+pub(crate) fn module(
     rt: &HostRuntime,
     part: Section,
     begins: Option<Value>,
@@ -256,7 +257,7 @@ fn are_formed(modules: &[Module]) -> bool
 }
 
 /// Joins modules that are well formed.
-fn joined(
+pub(crate) fn joined(
     rt: &HostRuntime,
     modules: &[Module],
     base: Base,
@@ -282,7 +283,7 @@ fn has_areas(image: &Image, areas: &[(u32, u8, &[u8])]) -> bool {
 }
 
 /// Whether an image was refused for this cause, by its number and its name; 0 is none.
-fn is_refused(linked: &Result<Image, LinkError>, cause: u8, name: &[u8]) -> bool {
+pub(crate) fn is_refused(linked: &Result<Image, LinkError>, cause: u8, name: &[u8]) -> bool {
     match linked {
         Ok(_) => cause == 0,
         Err(LinkError::Undefined(found)) => cause == 1 && found.as_slice() == name,

@@ -14,3 +14,4 @@ pub mod Leaving
 pub mod Passing
 pub mod Places
 pub mod Calls
+pub mod Operands

@@ -11,9 +11,10 @@ use Rattle.vax_macro.specs.declared.error.FaultKind.{FaultKind}
 use Rattle.vax_macro.specs.declared.error.FaultKind.TheVariants as faults
 use Rattle.vax_macro.specs.Names.{is_name, with_entry}
 use Rattle.vax_macro.specs.Arguments.{Argument, arguments, behind_blanks, begins_with, closing, is_no_separator, name_length}
-use Rattle.vax_macro.specs.Heads.{Head, Word, macro_word, end_macro, repeat, repeat_arguments, repeat_characters, end_repeat, if_word, if_false, if_true, if_true_false, end_if, immediate_if, leave_word, argument_count, character_count, delete_word, end_word, other_word, word_in, known_word, piece_text, has_bad, has_unprintable, code_end, code_from}
+use Rattle.vax_macro.specs.Heads.{Head, Word, macro_word, end_macro, repeat, repeat_arguments, repeat_characters, end_repeat, if_word, if_false, if_true, if_true_false, end_if, immediate_if, leave_word, argument_count, character_count, delete_word, opcode_word, end_word, other_word, word_in, known_word, piece_text, has_bad, has_unprintable, code_end, code_from}
 use Rattle.vax_macro.specs.Templates.{Formals, no_formals, with_formal, formals_from, BodyLine, Template, template, rewritten, assigned, Giving, Filled, filled}
 use Rattle.vax_macro.specs.Conditions.{has_comma, number_in, condition_in, guarded_in, no_keyword}
+use Rattle.vax_macro.specs.Opcodes.{Opcode, opcode_in, opcode_lines, operand_formals}
 use Rattle.vax_macro.specs.Lines.{SourceLine, Reading}
 use Rattle.vax_macro.specs.Values.{all_by_value}
 use Rattle.vax_macro.specs.Strings.{Evaluated, Found, evaluated, last_operator}
@@ -465,6 +466,20 @@ delete_macros line head at rest =
     if has_unprintable line.text head.operands then Fails faults.Token
     else delete_listed (arguments (has_argument_forms rest.dialect) no_keyword (operands_from (has_argument_forms rest.dialect) line.text head.operands at)) rest
 
+-- ---- `.OPDEF`
+
+-- an opcode is a macro of its name, with a formal argument for each operand
+abbrev pub with_opcode : Opcode → Rest → Rest
+with_opcode o rest =
+    with_macro o.name (template (operand_formals (length o.operands)) (opcode_lines o.number o.operands)) rest
+
+abbrev pub opcode_defined : Result Opcode FaultKind → Rest → Done
+opcode_defined (Ok o) rest = Goes (with_opcode o rest)
+opcode_defined (Err kind) rest = Fails kind
+
+unfoldable pub define_opcode : Sense → Reading → Head → Rest → Done
+define_opcode names line head rest = opcode_defined (opcode_in names line.text head.operands) rest
+
 -- ---- A line that is read
 
 -- A label before a directive or a call is a statement of its own. The rest of the line is read with its label once more.
@@ -489,6 +504,7 @@ direct names word line pieces head at rest = elim word [
   | argument_count ↦ count_arguments line pieces head rest
   | character_count ↦ count_characters line head at rest
   | delete_word ↦ delete_macros line head at rest
+  | opcode_word ↦ define_opcode names line head rest
   | end_word ↦ Gives rest
   | other_word ↦ Gives rest
 ]

@@ -23,6 +23,7 @@ word_view words.Leave = specs.leave_word
 word_view words.CountArguments = specs.argument_count
 word_view words.CountCharacters = specs.character_count
 word_view words.Delete = specs.delete_word
+word_view words.Opcode = specs.opcode_word
 word_view words.End = specs.end_word
 word_view words.Other = specs.other_word
 

@@ -90,6 +90,7 @@ pub data Word : Type 0 where
   argument_count : Word
   character_count : Word
   delete_word : Word
+  opcode_word : Word
   end_word : Word
   other_word : Word
 
@@ -116,7 +117,8 @@ word_of name =
     else (if spells (codes ".IRP") name then repeat_arguments
     else (if spells (codes ".IRPC") name then repeat_characters
     else (if spells (codes ".ENDR") name then end_repeat
-    else condition_word name)))))
+    else (if spells (codes ".OPDEF") name then opcode_word
+    else condition_word name))))))
 
 -- the directive that the operator of a line is
 abbrev pub word_in : List ℕ → Option Piece → Word
@@ -129,6 +131,7 @@ known_word larger leave_word = if larger then leave_word else other_word
 known_word larger argument_count = if larger then argument_count else other_word
 known_word larger character_count = if larger then character_count else other_word
 known_word larger delete_word = if larger then delete_word else other_word
+known_word larger opcode_word = if larger then opcode_word else other_word
 known_word larger word = word
 
 -- Bytes that belong to no token: some of these pieces is one, or is one that isn't printable either.

@@ -11,6 +11,8 @@ pub mod StringViews
 pub mod TemplateViews
 pub mod Conditions
 pub mod ConditionViews
+pub mod Opcodes
+pub mod OpcodeViews
 pub mod Lines
 pub mod Rest
 pub mod Directives

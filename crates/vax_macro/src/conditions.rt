@@ -407,7 +407,7 @@ fn named_condition(text: &[u8], piece: Piece) -> Option<Condition>
 
 /// The pieces behind a condition's name that ends at a place, and the place from which they are read.
 #[tactic(auto, using(crate::proofs::Tokens::parts))]
-fn behind_name(end: u32, pieces: &[Piece]) -> (&[Piece], usize)
+pub(crate) fn behind_name(end: u32, pieces: &[Piece]) -> (&[Piece], usize)
     ensures pieces { result.0.now ≡ behind_name end pieces.now }
     ensures place { result.1 ≡ name_end end pieces.now }
     ensures within { (line : List ℕ) →

@@ -4,11 +4,12 @@ ghost use Rattle.std.specs.Prelude.{◌≡◌, None, All, drop, map, IfOk, OnOk}
 ghost use Rattle.vax_lex.specs.Tokens.{IsPieceOf};
 ghost use Rattle.vax_macro.specs.ArgumentViews.{argument_view, lent_arguments};
 ghost use Rattle.vax_macro.specs.ConditionViews.{pair_view};
-ghost use Rattle.vax_macro.specs.Directives.{assignment, assigns, calls_within, conditions_outside, count_arguments, count_characters, delete_all, delete_macros, innermost, leave, one_piece, read_line, two_texts, with_value};
+ghost use Rattle.vax_macro.specs.Directives.{assignment, assigns, calls_within, conditions_outside, count_arguments, count_characters, define_opcode, delete_all, delete_macros, innermost, leave, one_piece, read_line, two_texts, with_opcode, with_value};
 ghost use Rattle.vax_macro.specs.Names.{with_entry};
+ghost use Rattle.vax_macro.specs.OpcodeViews.{opcode_view};
 ghost use Rattle.vax_macro.specs.StringViews.{found_view, operator_view};
 ghost use Rattle.vax_macro.specs.Strings.{evaluated};
-ghost use Rattle.vax_macro.specs.View.{Acts, Obeys, call_view, condition_view, head_in, line_in, macros_of, operands_at, rest_in};
+ghost use Rattle.vax_macro.specs.View.{Acts, Becomes, Obeys, call_view, condition_view, head_in, line_in, macros_of, operands_at, rest_in};
 
 use crate::arguments::{Argument, NoKeyword, arguments};
 use crate::conditions::{Refusal, text_of};
@@ -16,6 +17,7 @@ use crate::directives::{operands_fault, operands_from};
 use crate::error::FaultKind;
 use crate::heads::{code_end, has_bad, has_unprintable, piece_text};
 use crate::names::{behind, copied, is_name, part};
+use crate::opcodes::{Opcode, opcode_in, opcode_lines, operand_formals};
 use crate::state::Parsed;
 use crate::state_types::{Call, Done, OpenCondition, State};
 use crate::strings::{Found, evaluated, last_operator};
@@ -253,6 +255,44 @@ impl State {
             return Ok(Done::Fails(FaultKind::Count));
         }
         self.delete_all(alloc, &found, parsed.read)
+    }
+
+    /// A macro that lays an opcode and its operands is defined.
+    fn finish_opcode(&mut self, alloc: Global, opcode: Opcode) -> Result<(), NoMemory>
+        ensures { OnOk result (Becomes (with_opcode (opcode_view opcode)) self.old self.new) }
+    {
+        let Opcode {
+            name,
+            number,
+            operands,
+        } = opcode;
+        let formals = operand_formals(alloc, operands.len())?;
+        let lines = opcode_lines(alloc, number, &operands)?;
+        self.finish_macro(alloc, name, formals, lines)?;
+        Ok(())
+    }
+
+    /// `.OPDEF`.
+    #[tactic(auto, unfolding(crate::specs::Directives::define_opcode))]
+    pub(crate) fn define_opcode<N: Names>(
+        &mut self,
+        alloc: Global,
+        names: &N,
+        parsed: Parsed<'_>,
+    ) -> Result<Done, NoMemory>
+        requires { All (IsPieceOf parsed.line.now.text.items) parsed.pieces.now }
+        ensures { Obeys parsed.entry
+            (λ p. define_opcode (N.meaning names.now) (line_in p) (head_in p))
+            result self.old self.new }
+    {
+        match opcode_in(alloc, names, &parsed.line.text, parsed.operands()) {
+            Ok(opcode) => {
+                self.finish_opcode(alloc, opcode)?;
+                Ok(Done::Goes)
+            }
+            Err(Refusal::Fault(kind)) => Ok(Done::Fails(kind)),
+            Err(Refusal::NoMemory) => Err(NoMemory),
+        }
     }
 
     /// A line that is read.

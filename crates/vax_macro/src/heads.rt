@@ -26,6 +26,7 @@ pub(crate) enum Word {
     CountArguments,
     CountCharacters,
     Delete,
+    Opcode,
     End,
     Other,
 }
@@ -193,6 +194,8 @@ fn word_of(name: &[u8]) -> Word
         Word::RepeatCharacters
     } else if spells(b".ENDR", name) {
         Word::EndRepeat
+    } else if spells(b".OPDEF", name) {
+        Word::Opcode
     } else {
         condition_word(name)
     }
@@ -213,9 +216,8 @@ pub(crate) fn known_word(larger: bool, word: Word) -> Word
     ensures { word_view result ≡ known_word larger (word_view word) }
 {
     match word {
-        Word::Leave | Word::CountArguments | Word::CountCharacters | Word::Delete => {
-            if larger { word } else { Word::Other }
-        }
+        Word::Leave | Word::CountArguments | Word::CountCharacters | Word::Delete | Word::Opcode
+            if !larger => Word::Other,
         word => word,
     }
 }

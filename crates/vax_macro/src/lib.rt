@@ -16,6 +16,7 @@ mod heads;
 mod line_types;
 mod lines;
 mod names;
+mod opcodes;
 mod reader;
 mod state;
 mod state_types;

@@ -187,7 +187,7 @@ impl State {
     }
 
     /// A macro of these lines is defined.
-    fn finish_macro(
+    pub(crate) fn finish_macro(
         &mut self,
         alloc: Global,
         name: Vec<u8>,
@@ -730,6 +730,7 @@ impl State {
             Word::CountArguments => self.count_arguments(alloc, parsed),
             Word::CountCharacters => self.count_characters(alloc, parsed),
             Word::Delete => self.delete_macros(alloc, parsed),
+            Word::Opcode => self.define_opcode(alloc, names, parsed),
             Word::End | Word::Other => Ok(Done::Gives),
         }
     }

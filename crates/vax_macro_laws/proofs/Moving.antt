@@ -8,9 +8,10 @@ use Rattle.vax_lex.specs.Values.{Sense}
 use Rattle.vax_macro.specs.Arguments.{Argument, arguments, behind_blanks, name_length}
 use Rattle.vax_macro.specs.Conditions.{condition_in, guarded_in, no_keyword, number_in}
 use Rattle.vax_dialect.specs.Differences.{has_argument_forms, has_arguments_by_value, has_macro_directives, has_string_operators}
-use Rattle.vax_macro.specs.Directives.{operands_from, operator_within, read_line, turn, with_value, assignment, assigns, calls_within, conditions_outside, count_arguments, count_characters, counted, counted_in, delete_all, delete_listed, delete_macros, innermost, measured, one_piece, two_texts, Iterated, without_macro, leave, left_at, lines_outside, Again, Done, Fails, Gives, Goes, Label, Turns, Writes, Statement, argument_texts, begin_arguments, begin_body, begin_characters, begin_condition, begin_copies, begin_each, begin_macro, begin_repeat, behind_label, body_fault, call, call_by, call_of, call_with, passed, character_texts, collect, condition_fault, direct, done, end_condition, end_fault, ends, expansion, finished, guard, has_label, is_deep, is_formal, is_skipping, iterated_in, line_copies, lines_for_each, macro_formals, nested_after, open_call, open_condition, opening, operands_fault, read, read_operator, read_word, skip, switch, switch_condition, then_count, unless_fault, with_expansion, with_call, with_macro, with_pending}
+use Rattle.vax_macro.specs.Directives.{operands_from, operator_within, read_line, turn, with_value, assignment, assigns, calls_within, conditions_outside, count_arguments, count_characters, counted, counted_in, delete_all, delete_listed, delete_macros, define_opcode, opcode_defined, innermost, measured, one_piece, two_texts, Iterated, without_macro, leave, left_at, lines_outside, Again, Done, Fails, Gives, Goes, Label, Turns, Writes, Statement, argument_texts, begin_arguments, begin_body, begin_characters, begin_condition, begin_copies, begin_each, begin_macro, begin_repeat, behind_label, body_fault, call, call_by, call_of, call_with, passed, character_texts, collect, condition_fault, direct, done, end_condition, end_fault, ends, expansion, finished, guard, has_label, is_deep, is_formal, is_skipping, iterated_in, line_copies, lines_for_each, macro_formals, nested_after, open_call, open_condition, opening, operands_fault, read, read_operator, read_word, skip, switch, switch_condition, then_count, unless_fault, with_expansion, with_call, with_macro, with_pending}
 use Rattle.vax_macro.specs.Expansion.{Ends, Faults, Says, Stepped, Steps, begun, joined_on, joined_with, line_step, next_line_step, outcome, read_on, step, unclosed, whole}
-use Rattle.vax_macro.specs.Heads.{Head, Word, code_end, code_from, has_bad, end_if, end_macro, end_repeat, end_word, has_unprintable, head_in, if_false, if_true, if_true_false, if_word, immediate_if, argument_count, character_count, delete_word, known_word, leave_word, macro_word, other_word, piece_text, repeat, repeat_arguments, repeat_characters, word_in}
+use Rattle.vax_macro.specs.Opcodes.{Opcode, opcode_in}
+use Rattle.vax_macro.specs.Heads.{Head, Word, code_end, code_from, has_bad, end_if, end_macro, end_repeat, end_word, has_unprintable, head_in, if_false, if_true, if_true_false, if_word, immediate_if, argument_count, character_count, delete_word, opcode_word, known_word, leave_word, macro_word, other_word, piece_text, repeat, repeat_arguments, repeat_characters, word_in}
 use Rattle.vax_macro.specs.Lines.{Reading, Remainder, SourceLine, before_dash, dash_in, is_long, with_part}
 use Rattle.vax_macro.specs.Names.{is_name}
 use Rattle.vax_macro.specs.Rest.{Call, Opening, Pending, Rest, Use, copies_of, copy_each, macro_body}
@@ -120,6 +121,7 @@ skip_by leave_word line pieces head rest = (refl, refl)
 skip_by argument_count line pieces head rest = (refl, refl)
 skip_by character_count line pieces head rest = (refl, refl)
 skip_by delete_word line pieces head rest = (refl, refl)
+skip_by opcode_word line pieces head rest = (refl, refl)
 skip_by end_word line pieces head rest = (refl, refl)
 skip_by other_word line pieces head rest = (refl, refl)
 
@@ -257,6 +259,14 @@ delete_macros_leaves line head at rest =
     let found : Option (List Argument) = arguments (has_argument_forms rest.dialect) no_keyword (operands_from (has_argument_forms rest.dialect) line.text head.operands at) in
     either_leaves line.labelled (has_unprintable line.text head.operands) rest (Fails faults.Token) (delete_listed found rest) tt (delete_listed_leaves line.labelled found rest)
 
+defined_leaves : (l : Bool) (r : Result Opcode FaultKind) (rest : Rest) → Leaves l rest (opcode_defined r rest)
+defined_leaves l (Ok o) rest = (refl, refl)
+defined_leaves l (Err kind) rest = tt
+
+define_opcode_leaves : (names : Sense) (line : Reading) (head : Head) (rest : Rest) → Leaves line.labelled rest (define_opcode names line head rest)
+unfolding define_opcode
+define_opcode_leaves names line head rest = defined_leaves line.labelled (opcode_in names line.text head.operands) rest
+
 direct_by : (names : Sense) (w : Word) (line : Reading) (pieces : List Piece) (head : Head) (at : ℕ) (rest : Rest) → Leaves line.labelled rest (direct names w line pieces head at rest)
 unfolding direct
 direct_by names macro_word line pieces head at rest = begin_macro_leaves line head at rest
@@ -275,6 +285,7 @@ direct_by names leave_word line pieces head at rest = leave_leaves line pieces h
 direct_by names argument_count line pieces head at rest = count_arguments_leaves line pieces head rest
 direct_by names character_count line pieces head at rest = count_characters_leaves line head at rest
 direct_by names delete_word line pieces head at rest = delete_macros_leaves line head at rest
+direct_by names opcode_word line pieces head at rest = define_opcode_leaves names line head rest
 direct_by names end_word line pieces head at rest = (refl, refl)
 direct_by names other_word line pieces head at rest = (refl, refl)
 
@@ -295,6 +306,7 @@ word_leaves names leave_word line pieces head at rest = label_leaves line head r
 word_leaves names argument_count line pieces head at rest = label_leaves line head rest (direct names argument_count line pieces head at rest) (direct_by names argument_count line pieces head at rest)
 word_leaves names character_count line pieces head at rest = label_leaves line head rest (direct names character_count line pieces head at rest) (direct_by names character_count line pieces head at rest)
 word_leaves names delete_word line pieces head at rest = label_leaves line head rest (direct names delete_word line pieces head at rest) (direct_by names delete_word line pieces head at rest)
+word_leaves names opcode_word line pieces head at rest = label_leaves line head rest (direct names opcode_word line pieces head at rest) (direct_by names opcode_word line pieces head at rest)
 word_leaves names end_word line pieces head at rest = (refl, refl)
 word_leaves names other_word line pieces head at rest = (refl, refl)
 

@@ -11,9 +11,10 @@ use Rattle.vax_lex.specs.Values.{Sense}
 use Rattle.vax_macro.specs.Arguments.{Argument, arguments, behind_blanks, name_length}
 use Rattle.vax_macro.specs.Conditions.{condition_in, guarded_in, no_keyword, number_in}
 use Rattle.vax_dialect.specs.Differences.{has_argument_forms, has_arguments_by_value, has_macro_directives, has_string_operators}
-use Rattle.vax_macro.specs.Directives.{copies, one_formal, expansions, operands_from, operator_within, read_line, turn, with_value, assignment, assigns, calls_within, conditions_outside, count_arguments, count_characters, counted, counted_in, delete_all, delete_listed, delete_macros, innermost, measured, one_piece, two_texts, Iterated, without_macro, leave, left_at, lines_outside, Again, Done, Fails, Gives, Goes, Label, Turns, Writes, argument_texts, begin_arguments, begin_body, begin_characters, begin_condition, begin_copies, begin_each, begin_macro, begin_repeat, behind_label, body_fault, call, call_by, call_of, call_with, passed, character_texts, collect, condition_fault, direct, done, end_condition, end_fault, ends, expansion, finished, guard, has_label, is_deep, is_formal, is_skipping, iterated_in, line_copies, lines_for_each, macro_formals, nested_after, open_call, open_condition, opening, operands_fault, read, read_operator, read_word, skip, switch, switch_condition, then_count, unless_fault, with_expansion, with_call, with_macro, with_pending}
+use Rattle.vax_macro.specs.Directives.{copies, one_formal, expansions, operands_from, operator_within, read_line, turn, with_value, assignment, assigns, calls_within, conditions_outside, count_arguments, count_characters, counted, counted_in, delete_all, delete_listed, delete_macros, define_opcode, opcode_defined, innermost, measured, one_piece, two_texts, Iterated, without_macro, leave, left_at, lines_outside, Again, Done, Fails, Gives, Goes, Label, Turns, Writes, argument_texts, begin_arguments, begin_body, begin_characters, begin_condition, begin_copies, begin_each, begin_macro, begin_repeat, behind_label, body_fault, call, call_by, call_of, call_with, passed, character_texts, collect, condition_fault, direct, done, end_condition, end_fault, ends, expansion, finished, guard, has_label, is_deep, is_formal, is_skipping, iterated_in, line_copies, lines_for_each, macro_formals, nested_after, open_call, open_condition, opening, operands_fault, read, read_operator, read_word, skip, switch, switch_condition, then_count, unless_fault, with_expansion, with_call, with_macro, with_pending}
 use Rattle.vax_macro.specs.Expansion.{Ends, Faults, Opened, Says, Stepped, Steps, begun, behind, opened, joined_on, joined_with, line_step, next_line_step, outcome, read_on, step, whole}
-use Rattle.vax_macro.specs.Heads.{Head, Word, code_end, code_from, has_bad, end_if, end_macro, end_repeat, end_word, has_unprintable, head_in, if_false, if_true, if_true_false, if_word, immediate_if, argument_count, character_count, delete_word, known_word, leave_word, macro_word, other_word, piece_text, repeat, repeat_arguments, repeat_characters, word_in}
+use Rattle.vax_macro.specs.Opcodes.{Opcode, opcode_in}
+use Rattle.vax_macro.specs.Heads.{Head, Word, code_end, code_from, has_bad, end_if, end_macro, end_repeat, end_word, has_unprintable, head_in, if_false, if_true, if_true_false, if_word, immediate_if, argument_count, character_count, delete_word, opcode_word, known_word, leave_word, macro_word, other_word, piece_text, repeat, repeat_arguments, repeat_characters, word_in}
 use Rattle.vax_macro.specs.Lines.{Reading, Remainder, SourceLine, numbered, before_dash, dash_in, is_long, with_part}
 use Rattle.vax_macro.specs.Names.{is_name}
 use Rattle.vax_macro.specs.Rest.{Pending, Rest, Use, started, copies_of, copy_each, macro_body}
@@ -157,6 +158,7 @@ skip_by m leave_word line pieces head rest k = k
 skip_by m argument_count line pieces head rest k = k
 skip_by m character_count line pieces head rest k = k
 skip_by m delete_word line pieces head rest k = k
+skip_by m opcode_word line pieces head rest k = k
 skip_by m end_word line pieces head rest k = k
 skip_by m other_word line pieces head rest k = k
 
@@ -293,6 +295,16 @@ delete_macros_of m line head at rest k =
     let found : Option (List Argument) = arguments (has_argument_forms rest.dialect) no_keyword (operands_from (has_argument_forms rest.dialect) line.text head.operands at) in
     either_of m (has_unprintable line.text head.operands) (Fails faults.Token) (delete_listed found rest) tt (delete_listed_of m found rest k)
 
+-- ---- `.OPDEF`
+
+defined_of : (m : ℕ) (r : Result Opcode FaultKind) (rest : Rest) → IsOfLines m rest → DoneOf m (opcode_defined r rest)
+defined_of m (Ok o) rest k = record { lines = k.lines; again = k.again; collecting = k.collecting }
+defined_of m (Err kind) rest k = tt
+
+define_opcode_of : (m : ℕ) (names : Sense) (line : Reading) (head : Head) (rest : Rest) → IsOfLines m rest → DoneOf m (define_opcode names line head rest)
+unfolding define_opcode
+define_opcode_of m names line head rest k = defined_of m (opcode_in names line.text head.operands) rest k
+
 -- ---- a line that is read
 
 direct_of : (m : ℕ) (names : Sense) (w : Word) (line : Reading) (pieces : List Piece) (head : Head) (at : ℕ) (rest : Rest) → IsLine m line.number → IsOfLines m rest → DoneOf m (direct names w line pieces head at rest)
@@ -313,6 +325,7 @@ direct_of m names leave_word line pieces head at rest h k = leave_of m line piec
 direct_of m names argument_count line pieces head at rest h k = count_arguments_of m line pieces head rest k
 direct_of m names character_count line pieces head at rest h k = count_characters_of m line head at rest k
 direct_of m names delete_word line pieces head at rest h k = delete_macros_of m line head at rest k
+direct_of m names opcode_word line pieces head at rest h k = define_opcode_of m names line head rest k
 direct_of m names end_word line pieces head at rest h k = k
 direct_of m names other_word line pieces head at rest h k = k
 
@@ -333,6 +346,7 @@ word_of m names leave_word line pieces head at rest h k = label_of m line head r
 word_of m names argument_count line pieces head at rest h k = label_of m line head rest (direct names argument_count line pieces head at rest) k (direct_of m names argument_count line pieces head at rest h k)
 word_of m names character_count line pieces head at rest h k = label_of m line head rest (direct names character_count line pieces head at rest) k (direct_of m names character_count line pieces head at rest h k)
 word_of m names delete_word line pieces head at rest h k = label_of m line head rest (direct names delete_word line pieces head at rest) k (direct_of m names delete_word line pieces head at rest h k)
+word_of m names opcode_word line pieces head at rest h k = label_of m line head rest (direct names opcode_word line pieces head at rest) k (direct_of m names opcode_word line pieces head at rest h k)
 word_of m names end_word line pieces head at rest h k = record { lines = All-nil (λ (l : SourceLine). IsLine m l.number); again = k.again; collecting = k.collecting }
 word_of m names other_word line pieces head at rest h k = k
 

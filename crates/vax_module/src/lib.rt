@@ -23,6 +23,9 @@ pub struct Section {
     pub write: bool,
     /// What it holds. A field that is relocated holds 0.
     pub bytes: Bytes,
+    /// How many bytes are laid from the begin of the section of this name on, over what else it has, and 0 where what this
+    /// module gives to it is laid behind what others give. An overlaid section has no bytes of its own.
+    pub storage: u32,
 }
 
 /// A name and what it stands for.

@@ -79,7 +79,8 @@ fn stopped(machine: &Machine, limits: &Limits, plan: &Plan) -> Option<TraceEnd>
     ensures why { result ≡ stopped_by (engine machine.now).ended
         (nat_le limits.now.steps (engine machine.now).steps)
         (nat_lt 0 (engine machine.now).steps
-        && list_any (λ a. a == slice_index (engine machine.now).cpu.core.regs 15) (breaks_of plan.now)) }
+        && list_any (λ a. a == slice_index (engine machine.now).cpu.core.regs 15)
+        (breaks_of plan.now)) }
 {
     if let Some(ending) = machine.ended() {
         return Some(TraceEnd::Ended(ending));
@@ -273,8 +274,8 @@ pub fn traced<F: PageFile, K: Sink>(
     requires between { IsBetween (engine machine.old) }
     ensures traces { (start : Flat) → Means (engine machine.old) (F.contents file.old) (At start)
         → (engine machine.old).steps ≡ 0
-        → Traces (trace_of limits.now schedule.now plan.old (engine machine.old) (F.contents file.old)
-        start) result
+        → Traces (trace_of limits.now schedule.now plan.old (engine machine.old)
+        (F.contents file.old) start) result
         (K.contents sink.old)
         (system_of (engine machine.new) (F.contents file.new) (K.contents sink.new)) }
     ensures only { OnlyWrote true (K.contents sink.old) (K.contents sink.new) }

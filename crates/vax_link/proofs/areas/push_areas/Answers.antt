@@ -12,8 +12,8 @@ use Rattle.vax_link.proofs.RoomLaws.{name_at}
 use Rattle.vax_link.proofs.areas.push_areas.Goals as goal
 use Rattle.vax_link.proofs.areas.push_areas.Goals.{then-is_control_block-control+in_ok-area+in-Some+in_ok-push, then-is_control_block-control+in_ok-area+in_default, else-is_control_block-control}
 
-pub area_of-requires-clause-small : goal.area_of-requires-clause-small
-area_of-requires-clause-small c =
+pub area_of-requires : goal.area_of-requires
+area_of-requires c =
     let layout = c.args.layout.now in
     let names = c.deref-name-items.result.now in
     name_small layout.base (sections_in layout.pieces.items) names c.loop-number.number layout.placed.room (ap names_in c.deref-name-items.ensures.value ∙ layout.placed.named) c.loop-number-test.true

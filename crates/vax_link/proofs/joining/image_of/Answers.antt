@@ -8,17 +8,11 @@ use Rattle.vax_link.specs.declared.LinkError.{LinkError}
 use Rattle.vax_link.specs.Layout.{is_too_large, pieces_of, sections_in}
 use Rattle.vax_link.specs.Placed.{bytes_in}
 use Rattle.vax_link.specs.Values.{filled_from}
-use Rattle.vax_link.proofs.AreaLaws.{areas_are, filling_of}
+use Rattle.vax_link.proofs.AreaLaws.{areas_are}
 use Rattle.vax_link.proofs.FillLaws.{filled_long}
 use Rattle.vax_link.proofs.ImageLaws.{is_image}
 use Rattle.vax_link.proofs.LinkLaws.{areas_in, gives_image, gives_no_transfer, gives_outside, gives_reach}
 use Rattle.vax_link.proofs.joining.image_of.Goals as goal
-
-pub areas_of-requires : goal.areas_of-requires
-areas_of-requires c =
-    let region = c.args.base in
-    filling_of region c.args.modules.now c.layout.result.now c.args.values.now.layout c.deref.result.now c.layout.ensures c.requires.values.layout c.requires.formed
-    (ap bytes_in c.deref.ensures.value ∙ c.in_ok-filled.ensures region c.requires.values)
 
 pub returns-in_default-clause-placed : goal.returns-in_default-clause-placed
 returns-in_default-clause-placed c = gives_no_transfer c.args.base c.args.modules.now (sym (c.in_default.ensures c.args.base c.requires.values))

@@ -1,9 +1,9 @@
-use Rattle.std.proofs.Common.{◌≤◌, ℕ, List, take, sym, ap, subst, ◌∙◌}
+use Rattle.std.proofs.Common.{ℕ, List, ap, ◌∙◌}
 use Rattle.std.specs.Prelude.{slice_index}
 use Rattle.std.specs.List.{position_or_len}
 use Rattle.std.specs.Str.{bytes_eq}
 use Rattle.vax_link.specs.Names.{Name}
-use Rattle.vax_link.specs.Layout.{align_of, end_behind, names_in, names_of, offset_behind, sections_in}
+use Rattle.vax_link.specs.Layout.{names_in, names_of, sections_in}
 use Rattle.vax_link.proofs.RoomLaws.{address_more, no_addresses, prefix_small}
 use Rattle.vax_link.proofs.layout.addresses_of.Goals as goal
 
@@ -16,14 +16,10 @@ loop-place-preserved c = λ region same begun room.
     let all = sections_in pieces in
     let i = c.loop-place.place in
     let x = c.index-pieces-place.result in
-    let name = c.as_slice-name.result.now in
-    let before = sections_in (take i pieces) in
     let page =
-    c.page_of.ensures.page ∙ ap (λ (n : Name). slice_index c.args.pages.now (position_or_len (λ m. bytes_eq m n) (names_in c.args.names.now))) c.as_slice-name.ensures
+    c.page_of.ensures.page ∙ ap (λ (n : Name). slice_index c.args.pages.now (position_or_len (λ m. bytes_eq m n) (names_in c.args.names.now))) c.as_slice.ensures
     ∙ ap (λ (ns : List Name). slice_index c.args.pages.now (position_or_len (λ m. bytes_eq m x.now.name) ns)) same
     ∙ ap (λ (ps : List ℕ). slice_index ps (position_or_len (λ m. bytes_eq m x.now.name) (names_of all))) begun in
-    let P : Name → Type 0 = λ n. end_behind n (align_of n all) 0 before ≤ 0x1000000 in
-    let small : P name = subst P (sym c.as_slice-name.ensures) (prefix_small region pieces i x c.loop-place-test.true c.index-pieces-place.is room) in
-    let offset = c.offset_behind-offset.ensures.offset small ∙ ap (offset_behind all before) c.as_slice-name.ensures in
-    address_more region pieces i x c.loop-place.addresses.items c.push.new.self.items c.page_of.result c.offset_behind-offset.result c.loop-place-test.true c.index-pieces-place.is
+    let offset = c.offset_of-offset.ensures.offset (prefix_small region pieces i x c.loop-place-test.true c.index-pieces-place.is room) in
+    address_more region pieces i x c.loop-place.addresses.items c.push.new.self.items c.page_of.result c.offset_of-offset.result c.loop-place-test.true c.index-pieces-place.is
     (c.loop-place.invariant region same begun room) c.in_ok-push.ensures.items page offset

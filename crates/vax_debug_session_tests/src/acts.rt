@@ -1,7 +1,7 @@
 //! Tests of what a debugger does and replies. Expected replies are worked by hand.
 ghost use Rattle.vax_debug_words.specs.Expressions.{IsExpression};
 
-use crate::steps::{CALLS, PROCEDURE, SUBROUTINE, machine_with, surroundings, untold};
+use crate::machines::{CALLS, PROCEDURE, SUBROUTINE, machine_with, surroundings, untold};
 use std::test::Fail;
 use vax_debug_acts::{
     Plan, Setting, clear_all, clear_at, deposit_into_memory, deposit_into_register, evict_all,

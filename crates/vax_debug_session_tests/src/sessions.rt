@@ -1,5 +1,5 @@
 //! Tests of sessions with a debugger, line by line. Expected replies are worked by hand.
-use crate::steps::{CALLS, machine_with, surroundings, untold};
+use crate::machines::{CALLS, machine_with, surroundings, untold};
 use std::test::Fail;
 use vax_debug_acts::Setting;
 use vax_debug_session::{Plan, SessionEnd, hold};
