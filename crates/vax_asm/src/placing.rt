@@ -77,7 +77,9 @@ fn direct(
             operands,
         ),
         Directive::Space(kind) => space(standing, alloc, origin, line, kind, operands),
-        Directive::Reference(size) => reference(standing, alloc, origin, line, size, operands),
+        Directive::Reference(referring) => {
+            reference(standing, alloc, origin, line, referring, operands)
+        }
         Directive::Align => align(standing, alloc, origin, line, operands),
         Directive::Even => even(standing, operands),
         Directive::Odd => odd(standing, operands),

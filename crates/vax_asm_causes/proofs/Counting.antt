@@ -1,13 +1,13 @@
 -- How often names stand, one more at a time.
 use Rattle.std.proofs.Common.{◌≡◌, ℕ, zero, suc, Bool, true, false, cond, List, [], ◌∷◌, ◌++◌, length, Option, None, Some, refl, sym, ap, ◌∙◌, ⊎_elim, arith}
-use Rattle.std.specs.Prelude.{◌==◌, OnOk, Result, Ok, Err}
+use Rattle.std.specs.Prelude.{◌==◌, ◌||◌, is_some, OnOk, Result, Ok, Err}
 use Rattle.std.proofs.lemmas.Bool.{cases_Bool, cond-true, cond-false}
 use Rattle.std.proofs.lemmas.Bool.Decides.{nat_tests}
 use Rattle.std.specs.BTreeMap.{BTreeMap}
 use Rattle.std.specs.BTreeMap as tree
 use Rattle.std.specs.Cmp.Lexicographic.{bytes_decides, slice_cmp}
 use Rattle.std.specs.Global.{Vec}
-use Rattle.std.specs.List.{filter, flat_map}
+use Rattle.std.specs.List.{filter, flat_map, list_any}
 use Rattle.std.specs.Ordering.{nat_cmp}
 use Rattle.std.specs.Str.{bytes_eq, str_to_ascii_lowercase}
 use Rattle.vax_asm_causes.specs.Counts.{is_once, never, often_in, once_more, with_names, with_one}
@@ -103,3 +103,23 @@ counted name (other ∷ names) before = counted name names (with_one other befor
 
 pub stands_once : (dialect : Dialect) (source name : Text) (f : Text → Option Often) → f ≡ with_names (remarks.names_in dialect source) never → is_once (f name) ≡ remarks.stands_once dialect source name
 stands_once dialect source name f e = ap (λ (g : Text → Option Often). is_once (g name)) e ∙ ap is_once (counted name (remarks.names_in dialect source) never) ∙ once_by (length (filter (is_same name) (remarks.names_in dialect source)))
+
+-- ---- a name that stands
+
+-- a test on one more name, and on those before
+one_stands : (b : Bool) (before : Option Often) (more : Bool) → (is_some (cond b (once_more before) before) || more) ≡ (is_some before || (b || more))
+one_stands true None more = refl
+one_stands true (Some often) more = refl
+one_stands false before more = refl
+
+or_none : (b : Bool) → b ≡ (b || false)
+or_none true = refl
+or_none false = refl
+
+stood : (name : Text) (names : List Text) (before : Text → Option Often) → is_some (with_names names before name) ≡ (is_some (before name) || list_any (is_same name) names)
+unfolding with_names
+stood name [] before = or_none (is_some (before name))
+stood name (other ∷ names) before = stood name names (with_one other before) ∙ one_stands (is_same name other) (before name) (list_any (is_same name) names)
+
+pub stands : (dialect : Dialect) (source : Text) (f : Text → Option Often) → f ≡ with_names (remarks.names_in dialect source) never → (λ (name : Text). is_some (f name)) ≡ remarks.stands dialect source
+stands dialect source f e = λ i. λ name. (ap (λ (g : Text → Option Often). is_some (g name)) e ∙ stood name (remarks.names_in dialect source) never) i

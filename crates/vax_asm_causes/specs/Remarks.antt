@@ -1,14 +1,17 @@
 -- What is worth a remark in a source: it may assemble, and yet not be what was meant.
-use Rattle.std.specs.Prelude.{ℕ, ◌+◌, ◌==◌, ◌&&◌, ◌||◌, Bool, false, not, nat_le, if◌then◌else◌, List, [], ◌∷◌, ◌++◌, length, map, take, drop, codes, Option, None, Some}
+use Rattle.std.specs.Prelude.{ℕ, ◌+◌, ◌==◌, ◌&&◌, ◌||◌, Bool, true, false, not, nat_le, if◌then◌else◌, List, [], ◌∷◌, ◌++◌, length, map, take, drop, codes, slice_get, Option, None, Some}
 use Rattle.std.specs.Char.{is_ascii_digit, to_ascii_uppercase}
-use Rattle.std.specs.List.{filter, flat_map, prefix_len}
+use Rattle.std.specs.List.{filter, flat_map, list_any, prefix_len}
 use Rattle.std.specs.Str.{bytes_eq}
 use Rattle.vax_asm_causes.specs.Places.{are_same, first_line, is_called, is_mark, is_name, line_pieces, piece_text}
+use Rattle.vax_asm_causes.specs.declared.made.Maker.{Maker}
+use Rattle.vax_asm_causes.specs.declared.made.Maker.TheVariants.{Joint, Split}
 use Rattle.vax_asm_causes.specs.declared.places.Sought.TheVariants.{Anywhere}
 use Rattle.vax_asm_causes.specs.declared.remarks.About.{About}
 use Rattle.vax_asm_causes.specs.declared.remarks.About.TheVariants as about
 use Rattle.vax_asm_causes.specs.declared.remarks.Remark.{Remark}
 use Rattle.vax_dialect.specs.declared.Dialect.{Dialect}
+use Rattle.vax_lex.specs.Characters.{is_blank}
 use Rattle.vax_lex.specs.declared.token.Piece.{Piece}
 use Rattle.vax_lines.specs.Lines.{Text, lines}
 
@@ -98,7 +101,7 @@ mask_at start number line (p ∷ q ∷ more) = if is_called (codes ".ENTRY") lin
 abbrev pub mask_remarks : (start : Text) → (number : ℕ) → (line : Text) → List Piece → List Remark
 mask_remarks start number line pieces = mask_at start number line (operation_of pieces)
 
--- ---- labels that nothing uses
+-- ---- names of a source
 
 -- the names of a line, and of a source
 abbrev pub line_names : Dialect → (line : Text) → List Text
@@ -111,6 +114,68 @@ names_in dialect source = flat_map (line_names dialect) (lines source)
 abbrev pub stands_once : Dialect → (source name : Text) → Bool
 stands_once dialect source name = length (filter (λ other. are_same other name) (names_in dialect source)) == 1
 
+-- ---- names that expansions make
+
+-- a letter that may stand before a `^`
+abbrev pub is_size : (line : Text) → Piece → Bool
+is_size line p =
+    is_called (codes "B") line p || is_called (codes "W") line p || is_called (codes "L") line p || is_called (codes "G") line p
+    || is_called (codes "S") line p || is_called (codes "I") line p
+
+abbrev pub is_byte : (byte : ℕ) → Option ℕ → Bool
+is_byte byte None = false
+is_byte byte (Some other) = other == byte
+
+-- a name right before a `^`, of which an argument makes such a letter
+abbrev pub is_prefix : (line : Text) → Piece → Bool
+is_prefix line p = is_name p && not (is_size line p) && is_byte 94 (slice_get line p.end)
+
+-- nothing, a blank or a comment
+abbrev pub is_gap : Option ℕ → Bool
+is_gap None = true
+is_gap (Some byte) = is_blank byte || (byte == 59)
+
+-- a name right before a `-` that is last on its line, and so joins the next line to it
+abbrev pub is_continued : (line : Text) → Piece → Bool
+is_continued line p = is_name p && is_byte 45 (slice_get line p.end) && is_gap (slice_get line (p.end + 1))
+
+-- An apostrophe joins an argument to what stands beside it, and a line may be continued within a name. `.IRPC`, the `%` of an operator on texts and a prefix take apart what stands in the text.
+abbrev pub makes : Maker → (line : Text) → Piece → Bool
+makes Joint line p = is_mark p 39 || is_continued line p
+makes Split line p = is_called (codes ".IRPC") line p || is_mark p 37 || is_prefix line p
+
+abbrev pub has_maker : Dialect → Maker → (source : Text) → Bool
+has_maker dialect maker source = list_any (λ line. list_any (makes maker line) (line_pieces dialect line)) (lines source)
+
+-- a name stands in a source, in letters of either case
+abbrev pub stands : Dialect → (source name : Text) → Bool
+stands dialect source name = list_any (λ other. are_same other name) (names_in dialect source)
+
+-- a shorter front of a name passes a test: this one, or one with more of the characters behind it
+unfoldable pub has_front : (test : Text → Bool) → (front behind : Text) → Bool
+has_front test front [] = false
+has_front test front (b ∷ behind) = test front || has_front test (front ++ b ∷ []) behind
+
+-- what an argument or a text beside it can give as the end of a name: it begins with a digit, or passes a test
+abbrev pub is_end : (test : Text → Bool) → (end : Text) → Bool
+is_end test [] = false
+is_end test (b ∷ end) = is_ascii_digit b || test (b ∷ end)
+
+-- one of the shorter ends of a name is such
+unfoldable pub has_end : (test : Text → Bool) → (name : Text) → Bool
+has_end test [] = false
+has_end test (b ∷ end) = is_end test end || has_end test end
+
+-- A name may be joined of others: one that stands in the source is its front, and one its end.
+abbrev pub may_be_joined : Dialect → (source name : Text) → Bool
+may_be_joined dialect source name = has_maker dialect Joint source && has_front (stands dialect source) [] name && has_end (stands dialect source) name
+
+-- A name may stand in an expansion that doesn't stand in the source as a whole.
+abbrev pub may_be_made : Dialect → (source name : Text) → Bool
+may_be_made dialect source name = has_maker dialect Split source || may_be_joined dialect source name
+
+-- ---- labels that nothing uses
+
 -- a local label: digits and a `$`
 abbrev pub is_local : (name : Text) → Bool
 is_local name = bytes_eq (drop (prefix_len is_ascii_digit name) name) (codes "$")
@@ -122,13 +187,13 @@ own_label (p ∷ q ∷ r ∷ pieces) = if is_name p && is_mark q 58 && not (is_m
 own_label pieces = None
 
 abbrev pub is_unused : Dialect → (source name : Text) → Bool
-is_unused dialect source name = not (is_local name) && stands_once dialect source name
+is_unused dialect source name = not (is_local name) && stands_once dialect source name && not (may_be_made dialect source name)
 
 abbrev pub unused_at : Dialect → (source : Text) → (number : ℕ) → (line : Text) → Option Piece → List Remark
 unused_at dialect source number line None = []
 unused_at dialect source number line (Some p) = if is_unused dialect source (piece_text line p) then remark_on about.Unused number p ∷ [] else []
 
--- a label that is no local one and whose name stands nowhere else
+-- a label that is no local one, whose name stands nowhere else and isn't one that an expansion may make
 abbrev pub unused_remarks : Dialect → (source : Text) → (number : ℕ) → (line : Text) → List Piece → List Remark
 unused_remarks dialect source number line pieces = unused_at dialect source number line (own_label pieces)
 

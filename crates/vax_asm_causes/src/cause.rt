@@ -221,14 +221,7 @@ fn cause_in(
         }
         FaultKind::Form => {
             let operands = operands_of(alloc, said.operands)?;
-            form_cause(
-                alloc,
-                place.source,
-                place.line,
-                operator,
-                said.operands,
-                &operands,
-            )
+            form_cause(alloc, place, operator, said.operands, &operands)
         }
         FaultKind::Undefined => undefined_cause(alloc, place, said.operands, operator),
         FaultKind::Duplicate => duplicate_cause(alloc, place, label),

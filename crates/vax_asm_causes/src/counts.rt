@@ -1,6 +1,6 @@
 // How often names stand in a source.
 
-ghost use Rattle.std.specs.Prelude.{◌≡◌, ◌==◌, Some, IfOk, OnOk, length, map};
+ghost use Rattle.std.specs.Prelude.{◌≡◌, ◌==◌, Some, IfOk, OnOk, is_some, length, map};
 ghost use Rattle.std.specs.List.{filter};
 ghost use Rattle.std.specs.Str.{str_to_ascii_lowercase};
 ghost use Rattle.vax_asm_causes.specs.Counts.{is_once, never, often_in, once_more, with_names, with_one};
@@ -125,6 +125,14 @@ pub(crate) fn counts_of(alloc: Global, dialect: Dialect, source: &[u8]) -> Resul
         rest = behind;
     }
     Ok(counts)
+}
+
+/// Whether a name stands.
+pub(crate) fn stands(alloc: Global, counts: &Counts, name: &[u8]) -> Result<bool, NoMemory>
+    ensures { IfOk result (λ b. b ≡ is_some (often_in counts.now name.now)) }
+{
+    let key = small(alloc, name)?;
+    Ok(seen(counts, &key).is_some())
 }
 
 /// Whether a name stands once.

@@ -5,10 +5,11 @@ ghost use Rattle.vax_asm_causes.specs.Printed.{ArePrinted};
 
 use crate::cause::Place;
 use crate::names::are_same;
-use crate::statement::{Statement, parts_of, pieces_of, text_of};
+use crate::statement::{Statement, is_mark, parts_of, pieces_of, text_of};
 use crate::templates::{BodyLine, is_repeat, line_in_macros, line_of_repeat};
 use crate::words::{as_printed, decimal, say};
 use std::alloc::Global;
+use vax_dialect::Dialect;
 use vax_lex::Piece;
 use vax_space::NoMemory;
 
@@ -63,6 +64,18 @@ fn origin_words(
             say(alloc, &[b"macro ", name, b", its line ", &number])
         }
         None => say(alloc, &[b"macro ", name]),
+    }
+}
+
+/// Whether a line goes on behind it: its last piece is a `-`.
+///
+/// # Errors
+///
+/// [`NoMemory`] where memory is refused.
+pub fn is_continued(alloc: Global, dialect: Dialect, line: &[u8]) -> Result<bool, NoMemory> {
+    match pieces_of(alloc, dialect, line)?.last() {
+        Some(last) => Ok(is_mark(*last, b'-')),
+        None => Ok(false),
     }
 }
 

@@ -19,7 +19,8 @@ pub struct KnownValue {
     pub value: i64,
 }
 
-/// What is known of a statement: the values of expressions in it, and how far its branch would have to reach, counted from its end.
+/// What is known of a statement: the values of expressions in it, and how far its branch would have to reach, counted from its end, or `.` to go
+/// from its place.
 #[derive(Drop)]
 pub struct Facts {
     pub values: Vec<KnownValue>,

@@ -3,13 +3,15 @@
 ghost use Rattle.std.specs.Prelude.{◌≡◌};
 ghost use Rattle.vax_asm_causes.specs.Remarks.{is_false_register, is_like_digit, is_like_number, is_ten_to_fifteen, looks_like_register};
 
+use crate::cause::Place;
 use crate::count::instruction;
-use crate::names::definition_of;
+use crate::names::{definition_beside, definition_of};
+use crate::places::is_called;
 use crate::statement::{is_mark, is_name, text_of};
 use crate::words::{Found, at, cause_at, decimal};
 use std::alloc::Global;
 use vax_isa::{Letter, OperandKind};
-use vax_lex::Piece;
+use vax_lex::{Piece, PieceKind, TokenKind};
 use vax_space::NoMemory;
 
 /// Whether a byte is a digit, or a letter that is taken for one.
@@ -62,6 +64,20 @@ fn false_register(line: &[u8], pieces: &[Piece]) -> Option<Piece> {
         if is_false_register(line, *piece) {
             return Some(*piece);
         }
+    }
+    None
+}
+
+/// The first text behind `^A` of a length that no number has.
+fn misfit_text(line: &[u8], pieces: &[Piece]) -> Option<Piece> {
+    let mut is_behind = false;
+    for piece in pieces {
+        let length = text_of(line, *piece).len();
+        let is_text = matches!(piece.kind, PieceKind::Token(TokenKind::Text));
+        if is_behind && is_text && (length <= 2 || length > 10) {
+            return Some(*piece);
+        }
+        is_behind = is_called(line, *piece, b"A");
     }
     None
 }
@@ -181,15 +197,60 @@ fn empty_operand(pieces: &[Piece], operands: &[&[Piece]]) -> Option<u32> {
     Some(last.start)
 }
 
+/// The other line that would define a name, but that is refused.
+fn refused_line(place: Place<'_>, piece: Piece) -> Option<u32> {
+    let name = text_of(place.line, piece);
+    if !is_name(piece) || definition_beside(place.source, name, place.refused).is_some() {
+        return None;
+    }
+    definition_of(place.source, name).filter(|number| *number != place.number)
+}
+
+/// Which of these names stands on a line that is refused, if one does.
+fn refused_cause(
+    alloc: Global,
+    place: Place<'_>,
+    pieces: &[Piece],
+) -> Result<Option<Found>, NoMemory> {
+    for piece in pieces {
+        if let Some(number) = refused_line(place, *piece) {
+            let name = text_of(place.line, *piece);
+            let number = decimal(alloc, u64::from(number))?;
+            let cause = cause_at(
+                alloc,
+                piece.start,
+                &[
+                    b": line ",
+                    &number,
+                    b", on which `",
+                    name,
+                    b"` stands, has a fault",
+                ],
+            )?;
+            return Ok(Some(cause));
+        }
+    }
+    Ok(None)
+}
+
+/// Why an operand has no form, whatever the statement is, if it shows.
+fn any_cause(alloc: Global, place: Place<'_>, pieces: &[Piece]) -> Result<Option<Found>, NoMemory> {
+    if let Some(piece) = misfit_text(place.line, pieces) {
+        let cause = cause_at(alloc, piece.start, &[b": `^A` takes 1 to 8 characters"])?;
+        return Ok(Some(cause));
+    }
+    refused_cause(alloc, place, pieces)
+}
+
 /// Why a statement has an operand of no form.
 pub(crate) fn form_cause(
     alloc: Global,
-    source: &[u8],
-    line: &[u8],
+    place: Place<'_>,
     operator: Piece,
     pieces: &[Piece],
     operands: &[&[Piece]],
 ) -> Result<Found, NoMemory> {
+    let line = place.line;
     if let Some(piece) = false_register(line, pieces) {
         let name = text_of(line, piece);
         return cause_at(alloc, piece.start, &[b": `", name, b"` is no register"]);
@@ -197,11 +258,12 @@ pub(crate) fn form_cause(
     if let Some(start) = empty_operand(pieces, operands) {
         return cause_at(alloc, start, &[b": an operand is empty"]);
     }
-    match instruction_cause(alloc, source, line, text_of(line, operator), operands)? {
+    let name = text_of(line, operator);
+    if let Some(cause) = instruction_cause(alloc, place.source, line, name, operands)? {
+        return Ok(cause);
+    }
+    match any_cause(alloc, place, pieces)? {
         Some(cause) => Ok(cause),
-        None => match pieces.first() {
-            Some(first) => Ok(at(alloc, first.start)),
-            None => Ok(at(alloc, operator.start)),
-        },
+        None => Ok(at(alloc, pieces.first().unwrap_or(&operator).start)),
     }
 }

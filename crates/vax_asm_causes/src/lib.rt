@@ -11,6 +11,7 @@ mod expansion;
 mod facts;
 mod form;
 mod limits;
+mod made;
 mod names;
 mod places;
 mod range;
@@ -20,7 +21,7 @@ mod templates;
 mod words;
 
 pub use cause::{Cause, Place, cause_of};
-pub use expansion::expansion_of;
+pub use expansion::{expansion_of, is_continued};
 pub use facts::{Branch, Facts, KnownValue, branch_of, expressions_in};
 pub use names::{definition_of, is_definition};
 pub use places::{Sought, first_line};

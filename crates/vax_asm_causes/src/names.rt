@@ -68,9 +68,20 @@ pub fn is_definition(line: &[u8], name: &[u8]) -> bool {
     matches!(rest.first(), Some(b':' | b'=')) && are_same(word, name)
 }
 
-/// Whether a line is the entry with a name.
-fn is_entry(line: &[u8], name: &[u8]) -> bool {
+/// What stands behind the label of a line, or the line where it has none.
+fn behind_label(line: &[u8]) -> &[u8] {
     let text = line.split_at(blanks(line)).1;
+    let behind = text.split_at(name_length(text)).1;
+    match behind.split_at(blanks(behind)).1 {
+        [b':', b':', statement @ ..] | [b':', statement @ ..] => statement,
+        _ => line,
+    }
+}
+
+/// Whether a line is the entry with a name, behind a label or without one.
+fn is_entry(line: &[u8], name: &[u8]) -> bool {
+    let statement = behind_label(line);
+    let text = statement.split_at(blanks(statement)).1;
     let (word, behind) = text.split_at(name_length(text));
     let rest = behind.split_at(blanks(behind)).1;
     let entry = rest.split_at(name_length(rest)).0;

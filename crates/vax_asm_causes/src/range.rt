@@ -312,6 +312,22 @@ fn items_cause(
     Ok(None)
 }
 
+/// Why a statement that is `. = e` is out of range, if it goes back.
+fn move_cause(alloc: Global, place: Place<'_>, operator: Piece) -> Result<Option<Found>, NoMemory> {
+    match place.facts.reach {
+        Some(bytes) if bytes < 0 && text_of(place.line, operator) == b".".as_slice() => {
+            let bytes = decimal(alloc, bytes.unsigned_abs())?;
+            let cause = cause_at(
+                alloc,
+                operator.start,
+                &[b": `.` goes forward alone here, not by -", &bytes],
+            )?;
+            Ok(Some(cause))
+        }
+        _ => Ok(None),
+    }
+}
+
 /// Why a statement has a number or a distance out of range.
 pub(crate) fn range_cause(
     alloc: Global,
@@ -325,6 +341,9 @@ pub(crate) fn range_cause(
     }
     if let Some(piece) = zero_divisor(pieces) {
         return cause_at(alloc, piece.start, &[b": a division by 0"]);
+    }
+    if let Some(cause) = move_cause(alloc, place, operator)? {
+        return Ok(cause);
     }
     let name = text_of(place.line, operator);
     if let Some(cause) = items_cause(alloc, place, name, operands)? {

@@ -2,11 +2,12 @@
 
 ghost use Rattle.std.specs.Prelude.{◌≡◌, ◌++◌, ◌∷◌, [], IfOk, OnOk, take};
 ghost use Rattle.vax_asm_causes.specs.Places.{line_pieces};
-ghost use Rattle.vax_asm_causes.specs.Remarks.{end_name, first_place, is_at, is_unused, line_remarks, mask_remarks, own_label, pieces_remarks, place_in, place_remarks, register_remarks, remark_on, remarks, remarks_if, start_of, unused_remarks};
+ghost use Rattle.vax_asm_causes.specs.Remarks.{end_name, first_place, is_at, is_unused, line_remarks, mask_remarks, may_be_made, own_label, pieces_remarks, place_in, place_remarks, register_remarks, remark_on, remarks, remarks_if, start_of, unused_remarks};
 ghost use Rattle.vax_asm_causes.specs.View.{IsRead, asked_by};
 
 use crate::counts::{Counts, counts_of, is_once};
 use crate::form::is_false_register;
+use crate::made::{Maker, has_end, has_front, has_maker};
 use crate::names::is_local;
 use crate::places::{Sought, first_line, is_called};
 use crate::statement::{is_mark, is_name, operation_of, pieces_of, text_of};
@@ -51,14 +52,16 @@ pub struct Wanted<'a> {
     pub name: &'a [u8],
 }
 
-/// A source that is read for remarks: how often each name stands there, the line on which the wanted one stands first, and the name at which its program
-/// begins, empty where it says none.
+/// A source that is read for remarks: how often each name stands there, whether its expansions join names and take them apart, the line on which the wanted
+/// name stands first, and the name at which its program begins, empty where it says none.
 #[derive(Drop)]
 struct Reading<'a> {
     dialect: Dialect,
     wanted: Wanted<'a>,
     source: &'a [u8],
     counts: Counts,
+    has_joints: bool,
+    has_splits: bool,
     place: Option<usize>,
     start: &'a [u8],
 }
@@ -170,12 +173,33 @@ fn own_label(pieces: &[Piece]) -> Option<Piece>
     }
 }
 
-/// Whether a label is no local one, and stands nowhere else.
+/// Whether an expansion may make a name of parts that stand in the source.
+fn may_be_made(alloc: Global, reading: &Reading<'_>, name: &[u8]) -> Result<bool, NoMemory>
+    requires { IsRead reading.now }
+    ensures { IfOk result
+        (λ b. b ≡ may_be_made reading.now.dialect reading.now.source.now name.now) }
+{
+    if reading.has_splits {
+        return Ok(true);
+    }
+    if !reading.has_joints {
+        return Ok(false);
+    }
+    Ok(has_front(alloc, &reading.counts, name)? && has_end(alloc, &reading.counts, name)?)
+}
+
+/// Whether a label is no local one, stands nowhere else, and isn't one that an expansion may make.
 fn is_unused(alloc: Global, reading: &Reading<'_>, name: &[u8]) -> Result<bool, NoMemory>
     requires { IsRead reading.now }
     ensures { IfOk result (λ b. b ≡ is_unused reading.now.dialect reading.now.source.now name.now) }
 {
-    Ok(!is_local(name) && is_once(alloc, &reading.counts, name)?)
+    if is_local(name) {
+        return Ok(false);
+    }
+    if !is_once(alloc, &reading.counts, name)? {
+        return Ok(false);
+    }
+    Ok(!may_be_made(alloc, reading, name)?)
 }
 
 /// A remark on a line's label that nothing uses.
@@ -288,6 +312,8 @@ impl<'a> Reading<'a> {
             wanted,
             source,
             counts: counts_of(alloc, dialect, source)?,
+            has_joints: has_maker(alloc, dialect, source, Maker::Joint)?,
+            has_splits: has_maker(alloc, dialect, source, Maker::Split)?,
             place: first_place(alloc, dialect, wanted.name, source)?,
             start: start_of(alloc, dialect, source)?,
         })

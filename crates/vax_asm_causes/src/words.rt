@@ -46,11 +46,13 @@ pub(crate) fn decimal(alloc: Global, n: u64) -> Result<Vec<u8>, NoMemory> {
     text.as_slice().to_vec(alloc).map_err(|_| NoMemory)
 }
 
-/// A byte as it is printed: a mark in place of one that isn't printable.
+/// A byte as it is printed: a blank in place of a tab, and a mark in place of any other that isn't printable.
 fn printed(byte: u8) -> u8
     ensures { IsPrinted result }
 {
-    if 32 <= byte && byte <= 126 {
+    if byte == b'\t' {
+        b' '
+    } else if 32 <= byte && byte <= 126 {
         byte
     } else {
         b'?'

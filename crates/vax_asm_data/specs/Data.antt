@@ -6,7 +6,7 @@ use Rattle.std.specs.Int.{w64, int_wrapping_add}
 use Rattle.vax_asm_encode.specs.Operands.{item_bytes, item_field}
 use Rattle.vax_asm_encode.specs.declared.operand.DataKind.{DataKind}
 use Rattle.vax_asm_encode.specs.declared.operand.DataKind.TheVariants.{Number}
-use Rattle.vax_asm_sections.specs.Layout.{Part, Zeros, Bytes, Field, current_of, gap, only_counts, place_in, put, aligned}
+use Rattle.vax_asm_sections.specs.Layout.{Part, Zeros, Bytes, Field, current_of, gap, is_absolute, only_counts, place_in, put, aligned}
 use Rattle.vax_dialect.specs.Differences.{has_empty_items, has_further_directives}
 use Rattle.vax_lex.specs.Characters.{spells}
 use Rattle.vax_lex.specs.Grammar.{symbols_of}
@@ -19,7 +19,7 @@ use Rattle.vax_macro.specs.declared.error.FaultKind.TheVariants as fault
 use Rattle.vax_asm_first.specs.Faults.{first_of, lowest, fault_of_value, unless_place, number_of}
 use Rattle.vax_asm_first.specs.Fixups.{Filling, Fixup, Known, filling_by}
 use Rattle.vax_asm_first.specs.Progress.{Site, Progress, begun, joined, done, added, Counted, counted, site_of}
-use Rattle.vax_asm_first.specs.Standing.{Standing, Told, here_at, here_in, misplaces, told, with_scope, with_sections}
+use Rattle.vax_asm_first.specs.Standing.{Standing, Told, here_at, here_in, misplaces, told, set_back, with_scope, with_sections}
 use Rattle.vax_asm_first.specs.declared.types.Content.TheVariants.{Data}
 use Rattle.vax_asm_first.specs.declared.types.Origin.{Origin}
 use Rattle.vax_asm_scope.specs.Scope.{Scope}
@@ -284,6 +284,12 @@ abbrev pub forward : ℕ → Standing → Result Standing FaultKind
 forward to s =
     let place = place_in (current_of s.sections) in
     if nat_lt to place then Err fault.Range else with_sections s (put (to - place) (Zeros (to - place)) s.sections)
+
+-- A place of the section at which it goes on, which may lie before in an absolute one: no bytes stand there.
+unfoldable pub moved : ℕ → Standing → Result Standing FaultKind
+moved to s =
+    let section = current_of s.sections in
+    if is_absolute section && nat_lt to (place_in section) then Ok (set_back to s) else forward to s
 
 -- `.ODD`: a zero byte, where the next one would have an even place in its section; it has no operands
 abbrev pub to_odd : ℕ → ℕ

@@ -1,7 +1,7 @@
 // Room and boundaries.
 
 ghost use Rattle.std.specs.Prelude.{◌≡◌, ◌≤◌, ◌<◌, ◌^◌, All, IfOk, IfSome, OnOk, Ok, length, replicate};
-ghost use Rattle.vax_asm_data.specs.Data.{align_by, align_stated, boundary, boundary_named, boundary_of, byte_of, even_stated, fill_where, filled_to, filling_with, forward, odd_stated, power, room, space_stated, unless_here};
+ghost use Rattle.vax_asm_data.specs.Data.{align_by, align_stated, boundary, boundary_named, boundary_of, byte_of, even_stated, fill_where, filled_to, filling_with, forward, moved, odd_stated, power, room, space_stated, unless_here};
 ghost use Rattle.vax_dialect.specs.Differences.{has_further_directives};
 ghost use Rattle.vax_lex.specs.Tokens.{IsTokenOf};
 ghost use Rattle.vax_asm_sections.specs.Layout.{gap};
@@ -309,7 +309,7 @@ pub fn odd(standing: &mut Standing, operands: &[Token]) -> Result<(), Refused>
 /// [`Refused::Fault`]: `Range` where the next statement stands behind it, `Large` where the section or the module would be too
 /// long. [`Refused::NoMemory`] where memory is refused. Nothing of use is left then.
 #[tactic(auto, using(crate::proofs::Limits::too_far))]
-pub fn forward(standing: &mut Standing, to: u64) -> Result<(), Refused>
+fn forward(standing: &mut Standing, to: u64) -> Result<(), Refused>
     ensures { States (forward to) result standing.old standing.new }
 {
     let place = u64::from(standing.place());
@@ -322,4 +322,20 @@ pub fn forward(standing: &mut Standing, to: u64) -> Result<(), Refused>
     }
     let bytes = more as u32;
     standing.put(bytes, Piece::Zeros(bytes))
+}
+
+/// Goes on at a place of the section, with zero bytes up to it; in an absolute section the place may lie before.
+///
+/// [`Refused::Fault`]: `Range` where the next statement stands behind it in another section, `Large` where the section or the module would
+/// be too long. [`Refused::NoMemory`] where memory is refused. Nothing of use is left then.
+#[tactic(auto, unfolding(crate::specs::Data::moved))]
+pub fn move_to(standing: &mut Standing, to: u64) -> Result<(), Refused>
+    ensures { States (moved to) result standing.old standing.new }
+{
+    let place = u64::from(standing.place());
+    if standing.in_absolute() && to < place {
+        standing.set_back(to as u32);
+        return Ok(());
+    }
+    forward(standing, to)
 }

@@ -1,7 +1,7 @@
 // What the assembler knows of statements with a fault.
 
 use std::alloc::Global;
-use vax_asm_causes::{Branch, Facts, KnownValue, branch_of, expressions_in};
+use vax_asm_causes::{Branch, Facts, KnownValue, branch_of, expressions_in, is_definition};
 use vax_asm_encode::Operand;
 use vax_asm_first::{Content, Filling, Fixup, Standing};
 use vax_asm_scope::{KnownNames, Scope};
@@ -56,13 +56,13 @@ fn value_of(
     Ok(standing.scope.known(&name, here))
 }
 
-/// The value of an expression of this text where the next statement stands, if that is a number.
-fn number_of(
+/// The value of an expression of this text where the next statement stands, if it has one.
+fn value_in(
     alloc: Global,
     standing: &Standing,
     here: Value,
     text: &[u8],
-) -> Result<Option<i64>, NoMemory> {
+) -> Result<Option<Value>, NoMemory> {
     if text.len() > LONGEST {
         return Ok(None);
     }
@@ -72,12 +72,22 @@ fn number_of(
         here,
     };
     match scan(alloc, text) {
-        Ok(tokens) => match evaluate(text, &tokens, &names) {
-            Ok(Value::Absolute(value)) => Ok(Some(value)),
-            Ok(_) | Err(_) => Ok(None),
-        },
+        Ok(tokens) => Ok(evaluate(text, &tokens, &names).ok()),
         Err(LexError::NoMemory) => Err(NoMemory),
         Err(_) => Ok(None),
+    }
+}
+
+/// The same, if that is a number.
+fn number_of(
+    alloc: Global,
+    standing: &Standing,
+    here: Value,
+    text: &[u8],
+) -> Result<Option<i64>, NoMemory> {
+    match value_in(alloc, standing, here, text)? {
+        Some(Value::Absolute(value)) => Ok(Some(value)),
+        _ => Ok(None),
     }
 }
 
@@ -118,6 +128,27 @@ fn reach_here(
     Ok(distance(from, to).and_then(|bytes| bytes.checked_sub(i64::from(length))))
 }
 
+/// How far `.` would have to go, where a statement is `. = e` and stands at this place.
+fn move_here(
+    alloc: Global,
+    standing: &Standing,
+    here: Value,
+    text: &[u8],
+) -> Result<Option<i64>, NoMemory> {
+    if !is_definition(text, b".") {
+        return Ok(None);
+    }
+    let expressions = expressions_in(alloc, standing.dialect, text)?;
+    let Some(expression) = expressions.first() else {
+        return Ok(None);
+    };
+    let value = value_in(alloc, standing, here, expression)?;
+    let (Some(from), Some(to)) = (place_of(here), value.and_then(place_of)) else {
+        return Ok(None);
+    };
+    Ok(distance(from, to))
+}
+
 /// What is known of a statement of this text that would stand here, which may be before what was placed of it.
 pub(crate) fn facts_here(
     alloc: Global,
@@ -127,7 +158,10 @@ pub(crate) fn facts_here(
 ) -> Result<Facts, NoMemory> {
     let mut facts = Facts::new(alloc);
     push_values(alloc, &mut facts, standing, here, text)?;
-    facts.reach = reach_here(alloc, standing, here, text)?;
+    facts.reach = match reach_here(alloc, standing, here, text)? {
+        Some(bytes) => Some(bytes),
+        None => move_here(alloc, standing, here, text)?,
+    };
     Ok(facts)
 }
 

@@ -29,8 +29,10 @@ pub fn errors_begin_with_the_refusal()
 
 /// Of a source in the smaller dialect remarks are told and no messages.
 pub fn sources_without_further_directives_have_remarks_alone()
-    ensures { (dialect : Dialect) → (title : Title) → (asked : Asked) → (source before after : List ℕ)
-        → IsRemarked dialect title source asked before after → has_further_directives dialect ≡ false
+    ensures { (dialect : Dialect) → (title : Title) → (asked : Asked)
+        → (source before after : List ℕ)
+        → IsRemarked dialect title source asked before after
+        → has_further_directives dialect ≡ false
         → after ≡ before ++ flat_map (remark title source asked.name)
         (remarks dialect asked source) }
 {}

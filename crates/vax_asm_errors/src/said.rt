@@ -8,7 +8,7 @@ use crate::errors::Source;
 use crate::line::{indent, line_at};
 use crate::walk::{Seen, Statements, refused_lines, statements_of};
 use std::alloc::Global;
-use vax_asm_causes::{Cause, Facts, Place, cause_of, expansion_of};
+use vax_asm_causes::{Cause, Facts, Place, cause_of, expansion_of, is_continued};
 use vax_asm_second::Fault;
 use vax_space::NoMemory;
 
@@ -80,6 +80,26 @@ fn said_there(alloc: Global, place: Place<'_>, fault: Fault) -> Result<Said, NoM
     })
 }
 
+/// A fault of a statement with this text that begins on a line and goes on behind it. The column is that of the line.
+fn said_joined(
+    alloc: Global,
+    there: Place<'_>,
+    whole: Place<'_>,
+    fault: Fault,
+) -> Result<Said, NoMemory>
+    ensures fault { IfOk result (λ s. s.fault ≡ fault) }
+    ensures plain { IfOk result IsPlain }
+{
+    let Cause { column, .. } = cause_of(alloc, there, fault.kind)?;
+    let Cause { words, .. } = cause_of(alloc, whole, fault.kind)?;
+    Ok(Said {
+        fault,
+        column: as_column(column),
+        cause: words,
+        expansion: Vec::new(alloc),
+    })
+}
+
 /// A fault of a statement that was seen.
 pub(crate) fn said_of_seen(
     alloc: Global,
@@ -94,10 +114,13 @@ pub(crate) fn said_of_seen(
     let line = line_at(source.text, fault.origin.line as usize);
     let outer = place_of(source, line, refused, &seen.facts, fault);
     let expansion = expansion_of(alloc, outer, &seen.text)?;
+    let inner = place_of(source, &seen.text, refused, &seen.facts, fault);
+    if expansion.is_empty() && is_continued(alloc, source.dialect, line)? {
+        return said_joined(alloc, outer, inner, fault);
+    }
     if expansion.is_empty() {
         return said_there(alloc, outer, fault);
     }
-    let inner = place_of(source, &seen.text, refused, &seen.facts, fault);
     said_inside(alloc, inner, indent(line), expansion, fault)
 }
 

@@ -1,8 +1,8 @@
 -- Sections with what the code keeps in them change as their meanings do.
-use Rattle.std.proofs.Common.{◌≡◌, ◌<◌, ◌+◌, ℕ, Bool, true, false, List, [], ◌∷◌, length, map, Result, Ok, Err, refl, sym, ap, subst, ◌∙◌}
+use Rattle.std.proofs.Common.{◌≡◌, ◌<◌, ◌+◌, ◌-◌, ℕ, Bool, true, false, List, [], ◌∷◌, length, map, Result, Ok, Err, refl, sym, ap, subst, ◌∙◌}
 use Rattle.std.proofs.lemmas.List.{get_or-map, map-append, map-set, length-set, length-map}
 use Rattle.std.specs.Prelude.{Option, Some, None, if◌then◌else◌, slice_set, ◌^◌}
-use Rattle.vax_asm_sections.specs.Layout.{Part, Zeros, Bytes, Field, Section, Sections, unnamed, current_of, longer, longer_by, is_absolute, only_counts, exceeds, place_in, refuses, with_part, put, gap, raised, with_raised, raise, aligned}
+use Rattle.vax_asm_sections.specs.Layout.{Part, Zeros, Bytes, Field, Section, Sections, unnamed, current_of, longer, longer_by, is_absolute, only_counts, exceeds, place_in, refuses, with_part, put, gap, raised, with_raised, raise, aligned, set_back, with_set_back}
 use Rattle.vax_asm_sections.specs.declared.types.Refusal.{Refusal}
 use Rattle.vax_asm_sections.specs.declared.types.Refusal.TheVariants.{Absolute, TooLong}
 use Rattle.vax_asm_sections.specs.View.{section_of, sections_of}
@@ -117,6 +117,12 @@ pub here_seen : (l : Layout Fixup) → here_in (sections_in l) ≡ here_in (sect
 here_seen l =
     here_either (is_absolute (current_of (sections_of l))) (is_absolute (current_of (sections_in l))) (sections_of l).current (place_in (current_of (sections_of l))) (place_in (current_of (sections_in l))) (sym (absolute_seen l)) (sym (place_seen l))
 
+back_seen : (to : ℕ) (x : Section Fixup) (s : Sections Fixup) → current_of (sections_seen s) ≡ section_seen x
+    → sections_seen (record { all = slice_set s.all s.current (set_back to x); current = s.current; total = s.total - (place_in x - to) }) ≡ with_set_back to (sections_seen s)
+back_seen to x s is =
+    ap (λ (l : List (Section specs.Fixup)). record { all = l; current = s.current; total = s.total - (place_in x - to) }) (map-set section_seen s.all s.current (set_back to x))
+    ∙ ap (λ (y : Section specs.Fixup). record { all = slice_set (map section_seen s.all) s.current (set_back to y); current = s.current; total = s.total - (place_in y - to) }) (sym is)
+
 -- what stands with these sections
 abbrev with : Standing → Sections specs.Fixup → Standing
 with s sections = record s { sections = sections }
@@ -135,3 +141,6 @@ align_stands k s l m e = ap (with_sections s) (sym (aligned_both k (sections_of 
 
 pub align_fails : (k : ℕ) (s : Standing) (l : Layout Fixup) (r : Refusal) → aligned k (sections_of l) ≡ Err r → with_sections s (aligned k (sections_in l)) ≡ Err (fault_of r)
 align_fails k s l r e = ap (with_sections s) (sym (aligned_both k (sections_of l) (within l)) ∙ ap seen e)
+
+pub back_stands : (to : ℕ) (l m : Layout Fixup) → with_set_back to (sections_of l) ≡ sections_of m → with_set_back to (sections_in l) ≡ sections_in m
+back_stands to l m e = sym (back_seen to (current_of (sections_of l)) (sections_of l) (current_seen (sections_of l) (within l))) ∙ ap sections_seen e

@@ -1,7 +1,7 @@
 -- What the statements so far leave, and what an expression is where it stands (VAX MACRO and Instruction Set Reference
 -- Manual, "Terms and expressions" and "Location counter").
 use Rattle.std.specs.Prelude.{ℕ, pos, Bool, true, false, ◌-◌, ◌&&◌, nat_lt, not, if◌then◌else◌, List, [], ◌∷◌, ◌++◌, length, take, Option, Some, None, Result, Ok, Err}
-use Rattle.vax_asm_sections.specs.Layout.{Sections, current_of, is_absolute, place_in, at_first}
+use Rattle.vax_asm_sections.specs.Layout.{Sections, current_of, is_absolute, place_in, at_first, with_set_back}
 use Rattle.vax_asm_sections.specs.declared.types.Refusal.{Refusal}
 use Rattle.vax_asm_sections.specs.declared.types.Refusal.TheVariants.{Absolute as Refused_data, Conflict, NoMemory, TooLong}
 use Rattle.vax_dialect.specs.Differences.{has_places_in_operands}
@@ -122,3 +122,7 @@ fault_of NoMemory = fault.Large
 abbrev pub with_sections : Standing → Result (Sections Fixup) Refusal → Result Standing FaultKind
 with_sections s (Ok sections) = Ok (record s { sections = sections })
 with_sections s (Err refusal) = Err (fault_of refusal)
+
+-- the current section, which is absolute, goes on at a place before
+abbrev pub set_back : ℕ → Standing → Standing
+set_back to s = record s { sections = with_set_back to s.sections }

@@ -1,11 +1,11 @@
 // What the statements so far leave.
 
-ghost use Rattle.std.specs.Prelude.{◌≡◌, ◌≤◌, All, IfOk, OnOk, length, option_map};
+ghost use Rattle.std.specs.Prelude.{◌≡◌, ◌≤◌, All, IfOk, OnOk, length, option_map, true};
 ghost use Rattle.vax_asm_sections.specs.Layout.{current_of, is_absolute, only_counts, place_in, put, aligned};
 ghost use Rattle.vax_asm_sections.specs.View.{part_of};
 ghost use Rattle.vax_lex.specs.Grammar.{symbols_of};
 ghost use Rattle.vax_lex.specs.Tokens.{IsTokenOf};
-ghost use Rattle.vax_asm_first.specs.Standing.{at_start, block_of, here_in, last_of, put_aside, told, unless_certain, with_sections, without_last};
+ghost use Rattle.vax_asm_first.specs.Standing.{at_start, block_of, here_in, last_of, put_aside, set_back, told, unless_certain, with_sections, without_last};
 ghost use Rattle.vax_asm_first.specs.View.{saved_of, standing_of, told_of, part_seen, Alters, ChangesScope};
 ghost use Rattle.vax_asm_scope.specs.Kept.{scope_of};
 ghost use Rattle.vax_asm_values.specs.Certain.{certain};
@@ -205,6 +205,16 @@ impl Standing {
             Err(Refusal::Absolute) => Err(Refused::Fault(FaultKind::Form)),
             Err(Refusal::TooLong | Refusal::Conflict) => Err(Refused::Fault(FaultKind::Large)),
         }
+    }
+
+    /// The section that the next statement goes into, which is absolute, goes on at a place before.
+    #[tactic(auto, using(crate::proofs::Seeing::absolute_seen, crate::proofs::Seeing::place_seen, crate::proofs::Seeing::back_stands))]
+    pub fn set_back(&mut self, to: u32)
+        requires absolute { is_absolute (current_of (standing_of self.old).sections) ≡ true }
+        requires before { to ≤ place_in (current_of (standing_of self.old).sections) }
+        ensures { standing_of self.new ≡ set_back to (standing_of self.old) }
+    {
+        self.layout.set_back(to);
     }
 
     /// Fills the section that the next statement goes into with zero bytes up to a multiple of a power of two, and aligns

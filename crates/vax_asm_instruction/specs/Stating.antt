@@ -1,7 +1,7 @@
 -- Instructions as statements (VAX MACRO and Instruction Set Reference Manual, "VAX MACRO source statement format" and "Addressing modes").
 use Rattle.std.specs.Prelude.{ℕ, ◌+◌, pos, Bool, true, false, ◌==◌, if◌then◌else◌, List, [], ◌∷◌, length, Option, Some, None, Result, Ok, Err}
 use Rattle.vax_dialect.specs.declared.Dialect.{Dialect}
-use Rattle.vax_isa.specs.declared.Letter.TheVariants.{Read}
+use Rattle.vax_isa.specs.declared.Letter.TheVariants.{Read, Write}
 use Rattle.vax_isa.specs.declared.OperandKind.{OperandKind}
 use Rattle.vax_isa.specs.Rows.{Plain}
 use Rattle.vax_lex.specs.Grammar.{symbols_of}
@@ -18,13 +18,15 @@ use Rattle.vax_macro.specs.declared.error.FaultKind.{FaultKind}
 use Rattle.vax_macro.specs.declared.error.FaultKind.TheVariants as fault
 use Rattle.vax_asm_first.specs.Faults.{fault_of_value}
 use Rattle.vax_asm_first.specs.Fixups.{Fixup, Filling, Known, filling_by}
-use Rattle.vax_asm_first.specs.Progress.{Site, Progress, joined, added, done, site_of}
+use Rattle.vax_asm_first.specs.Progress.{Site, Progress, joined, added, begun, done, site_of}
 use Rattle.vax_asm_first.specs.Standing.{Standing, Told, here_at, misplaces, told, with_scope}
 use Rattle.vax_asm_first.specs.declared.types.Content.TheVariants as content
 use Rattle.vax_asm_first.specs.declared.types.Origin.{Origin}
 use Rattle.vax_asm_scope.specs.Scope.{Scope}
 use Rattle.vax_asm_statement.specs.Modes as modes
 use Rattle.vax_asm_statement.specs.Parts.{parts}
+use Rattle.vax_asm_statement.specs.declared.directives.Referring.{Referring}
+use Rattle.vax_asm_statement.specs.declared.directives.Referring.TheVariants as referring
 use Rattle.vax_asm_instruction.specs.declared.placing.Addressed.{Addressed}
 use Rattle.vax_word.specs.Arithmetic.{bytes_of}
 use Rattle.vax_word.specs.declared.Size.{Size}
@@ -120,17 +122,36 @@ unfoldable pub instruction_stated : Plain → Origin → List ℕ → List Token
 instruction_stated row origin line tokens s =
     if_counted (length (parts tokens) == row.count) (operands_stated (site_of origin line s) (parts tokens) row.operands (opcode_stated row s)).progress
 
--- ---- `.REF1`, `.REF2`, `.REF4`, `.REF8`
+-- ---- `.REF1`, `.REF2`, `.REF4`, `.REF8`, `POPL`
 
 -- the operand of an instruction that reads so many bytes
 abbrev pub read_of : Size → OperandKind
 read_of size = record { letter = Read; width = bytes_of size }
 
-abbrev pub reference_by : Size → Site → List (List Token) → Standing → Result Standing FaultKind
-reference_by size site [] s = Err fault.Count
-reference_by size site (one ∷ []) s = done (operand_stated site (read_of size) one (current_of s.sections).size s).progress
-reference_by size site (one ∷ two ∷ more) s = Err fault.Count
+-- the operand of an instruction that writes a longword
+abbrev pub written_longword : OperandKind
+written_longword = record { letter = Write; width = 4 }
 
--- one operand, without an opcode before it
-unfoldable pub reference_stated : Size → Origin → List ℕ → List Token → Standing → Result Standing FaultKind
-reference_stated size origin line tokens s = reference_by size (site_of origin line s) (parts tokens) s
+abbrev pub referred_kind : Referring → OperandKind
+referred_kind (referring.Read size) = read_of size
+referred_kind referring.Pop = written_longword
+
+-- What stands before the operand: nothing, or of `MOVL (SP)+,dst` the opcode and the first operand, whose mode is 8 and whose register is 14.
+abbrev pub front_stated : Referring → Standing → Reached
+front_stated (referring.Read size) s = record { at = (current_of s.sections).size; progress = begun s }
+front_stated referring.Pop s = record { at = (current_of s.sections).size + 2; progress = added 2 (Bytes (0xD0 ∷ 0x8E ∷ [])) s }
+
+-- that, and the operand behind it
+abbrev pub referred : Referring → Site → List Token → Standing → Reached
+referred r site one s =
+    let front = front_stated r s in
+    behind front.progress.fault (operand_stated site (referred_kind r) one front.at front.progress.standing)
+
+abbrev pub reference_by : Referring → Site → List (List Token) → Standing → Result Standing FaultKind
+reference_by r site [] s = Err fault.Count
+reference_by r site (one ∷ []) s = done (referred r site one s).progress
+reference_by r site (one ∷ two ∷ more) s = Err fault.Count
+
+-- one operand, without the name of an instruction before it
+unfoldable pub reference_stated : Referring → Origin → List ℕ → List Token → Standing → Result Standing FaultKind
+reference_stated r origin line tokens s = reference_by r (site_of origin line s) (parts tokens) s

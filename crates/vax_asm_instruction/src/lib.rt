@@ -2,7 +2,7 @@
 //!
 //! [`instruction`] reads the operands between commas, and leaves in the current section the opcode and a field for each
 //! operand, to be filled in once all names have values. The bytes are then read back as the instruction. [`reference`] leaves
-//! an operand alone, and [`operand_type_here`] tells how one is addressed.
+//! an operand without the name of an instruction, and [`operand_type_here`] tells how one is addressed.
 #![tactic(auto)]
 
 mod placing;

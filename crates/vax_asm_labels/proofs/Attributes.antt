@@ -1,6 +1,6 @@
 -- The attributes of a section, one operand after another.
 use Rattle.std.proofs.Common.{◌≡◌, ◌<◌, ◌≤◌, ◌+◌, ℕ, suc, add-one, Bool, true, false, List, [], ◌∷◌, length, map, drop, Option, Some, None, refl, sym, ap, ◌∙◌, drop-cons, leb-true, subst}
-use Rattle.std.specs.Prelude.{IfSome, ◌&&◌, ◌||◌, ◌==◌, codes, if◌then◌else◌, nat_le, slice_index_or}
+use Rattle.std.specs.Prelude.{IfSome, ◌&&◌, ◌==◌, codes, if◌then◌else◌, nat_le, slice_index_or}
 use Rattle.std.specs.Str.{IsUtf8, str_eq_ignore_ascii_case}
 use Rattle.vax_asm_sections.specs.declared.types.Attributes.{Attributes}
 use Rattle.vax_dialect.specs.Differences.{has_further_directives}

@@ -1,8 +1,8 @@
 -- What stands for the mask of an entry is a token that is a name.
-use Rattle.std.proofs.Common.{◌≡◌, ◌≤◌, ◌+◌, ℕ, Bool, true, false, List, [], ◌∷◌, length, map, drop, take, Option, Some, None, refl, sym, ap, ◌∙◌, subst, arith}
+use Rattle.std.proofs.Common.{◌≡◌, ◌≤◌, ◌+◌, ℕ, Bool, true, false, List, [], ◌∷◌, length, drop, Some, None, refl, subst, arith}
 use Rattle.std.proofs.lemmas.Bool.Decides.{nat_tests}
 use Rattle.std.proofs.lemmas.List.{length-drop, length-map, length-take}
-use Rattle.std.specs.Prelude.{nat_lt, min, ◌-◌, if◌then◌else◌}
+use Rattle.std.specs.Prelude.{nat_lt, ◌-◌, if◌then◌else◌}
 use Rattle.std.specs.Char.{to_ascii_uppercase}
 use Rattle.std.specs.List.{prefix_len}
 use Rattle.vax_asm_labels.specs.Masks.{byte_behind, key_below, key_of}

@@ -3,7 +3,7 @@
 use Rattle.std.specs.Prelude.{ℕ, ℤ, pos, negsuc, Bool, true, false, ◌&&◌, ◌||◌, ◌==◌, nat_le, not, if◌then◌else◌, List, [], ◌∷◌, ◌++◌, Option, Some, None, Result, Ok, Err, codes}
 use Rattle.std.specs.Str.{bytes_eq}
 use Rattle.vax_asm_encode.specs.declared.operand.DataKind.TheVariants.{Number}
-use Rattle.vax_asm_data.specs.Data.{forward, item_stated, unless_none}
+use Rattle.vax_asm_data.specs.Data.{item_stated, moved, unless_none}
 use Rattle.vax_asm_sections.specs.Layout.{Sections, current_of, is_absolute, selected}
 use Rattle.vax_asm_sections.specs.declared.types.Attributes.{Attributes}
 use Rattle.vax_asm_sections.specs.declared.types.Refusal.{Refusal}
@@ -150,7 +150,7 @@ target absolute current (Err errors.Unknown) = Err fault.Undefined
 target absolute current (Err errors.Range) = Err fault.Range
 
 abbrev pub moved_to : Result ℕ FaultKind → Standing → Result Standing FaultKind
-moved_to (Ok n) s = forward n s
+moved_to (Ok n) s = moved n s
 moved_to (Err kind) s = Err kind
 
 abbrev pub place_moved : Site → List Token → Standing → Result Standing FaultKind

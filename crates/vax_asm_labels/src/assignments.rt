@@ -17,7 +17,7 @@ use crate::labels::share;
 use crate::operands::{is_place, kept};
 use std::alloc::Global;
 use std::rc::Rc;
-use vax_asm_data::forward;
+use vax_asm_data::move_to;
 use vax_asm_first::{
     Assignment, FaultKind, Origin, Refused, Site, Standing, Told, lowest, site_of,
 };
@@ -195,7 +195,7 @@ fn move_place(
         return Err(Refused::NoMemory);
     };
     match target(standing.in_absolute(), standing.layout.number(), told.value) {
-        Ok(to) => forward(standing, to),
+        Ok(to) => move_to(standing, to),
         Err(kind) => Err(Refused::Fault(kind)),
     }
 }
@@ -253,12 +253,13 @@ fn assign_named(
 /// rests on has one. In the expression the name means its definition before. Where it has no value yet, the assignment is
 /// added to `assignments`, from which [`vax_asm_first::first_circle`] tells whether a name comes back to itself.
 ///
-/// `. = e` goes on at a place of the current section, where the dialect has that: zero bytes stand up to it.
+/// `. = e` goes on at a place of the current section, where the dialect has that: zero bytes stand up to it. In an absolute section, which
+/// has no bytes, the place may lie before the next statement.
 ///
 /// [`Refused::Fault`] with the fault that counts: `UnknownOperator` where the name is `.` and the dialect doesn't have that, `Form` where it is a local label or
 /// the expression has no form, `Duplicate` where it is a label, `Range` where the expression divides by zero.
-/// Of `. = e`: `Form` where it is no place of the current section, `Undefined` where it isn't known, `Range` where it lies
-/// before the next statement, `Large` where the section or the module would be too long.
+/// Of `. = e`: `Form` where it is no place of the current section, `Undefined` where it isn't known, `Range` where it is negative, or lies
+/// before the next statement in a section that isn't absolute, `Large` where the section or the module would be too long.
 /// [`Refused::NoMemory`] where memory is refused. Nothing of use is left then, but for the assignments.
 #[tactic(auto, unfolding(crate::specs::Naming::assignment_stated))]
 pub fn assignment(

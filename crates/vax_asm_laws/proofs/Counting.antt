@@ -1,11 +1,11 @@
 -- Sections whose bytes are counted stay so where parts come behind theirs.
-use Rattle.std.proofs.Common.{◌≡◌, ◌<◌, ◌+◌, ℕ, suc, Bool, true, false, List, [], ◌∷◌, ◌++◌, length, Option, Some, None, Result, Ok, Err, refl, sym, ap, subst, ◌∙◌, arith, append_assoc}
+use Rattle.std.proofs.Common.{◌≡◌, ◌<◌, ◌+◌, ◌-◌, ℕ, suc, Bool, true, false, List, [], ◌∷◌, ◌++◌, length, Option, Some, None, Result, Ok, Err, refl, sym, ap, subst, ◌∙◌, arith, append_assoc}
 use Rattle.std.proofs.lemmas.Bool.Decides.{nat_tests}
 use Rattle.std.proofs.lemmas.List.{append-nil, get_or_append_left, get_or-set_other, get_or-set_same, length-append, length-set}
 use Rattle.std.proofs.lemmas.List.Elements.{All-append, All-cons, All-nil, All-set}
 use Rattle.std.specs.Prelude.{◌==◌, ◌≢◌, ◌^◌, if◌then◌else◌, slice_index_or, slice_set}
 use Rattle.std.specs.Str.{bytes_eq}
-use Rattle.vax_asm_sections.specs.Layout.{Part, Zeros, Section, Sections, aligned, begun, conflicts, current_of, exceeds, gap, longer, longer_by, made, numbered, place_in, put, raise, refuses, raised, selected, unnamed, with_part, with_raised}
+use Rattle.vax_asm_sections.specs.Layout.{Part, Zeros, Section, Sections, aligned, begun, conflicts, current_of, exceeds, gap, longer, longer_by, made, numbered, place_in, put, raise, refuses, raised, selected, set_back, unnamed, with_part, with_raised, with_set_back}
 use Rattle.vax_asm_sections.specs.declared.types.Attributes.{Attributes}
 use Rattle.vax_asm_sections.specs.declared.types.Refusal.{Refusal}
 use Rattle.vax_asm_sections.specs.declared.types.Refusal.TheVariants.{Absolute, Conflict, TooLong}
@@ -109,6 +109,11 @@ raised_step : (k : ℕ) (s : Sections Fixup) → AreCounted s → Step s (with_r
 raised_step k s h =
     let c = current_counted s h in
     set_step s (raised k (current_of s)) s.total h (record { stand = c.stand; size = c.size }) ([], sym (append-nil (current_of s).parts)) (λ all. all)
+
+pub back_step : (to : ℕ) (s : Sections Fixup) → AreCounted s → Step s (with_set_back to s)
+back_step to s h =
+    let c = current_counted s h in
+    set_step s (set_back to (current_of s)) (s.total - (place_in (current_of s) - to)) h (record { stand = c.stand; size = c.size }) ([], sym (append-nil (current_of s).parts)) (λ all. all)
 
 raise_step : (k : ℕ) (s t : Sections Fixup) (r : Result (Sections Fixup) Refusal) → ((u : Sections Fixup) → r ≡ Ok u → Step s u) → raise k r ≡ Ok t → Step s t
 raise_step k s t (Ok u) h e =

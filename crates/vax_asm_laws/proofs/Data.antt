@@ -2,11 +2,11 @@
 use Rattle.std.proofs.Common.{◌≡◌, ◌*◌, ℕ, pos, Bool, true, false, cond, List, [], ◌∷◌, length, map, Option, Some, None, Result, Ok, Err, refl, ap, subst, ◌∙◌}
 use Rattle.std.proofs.Math.Nat.{mul_comm}
 use Rattle.std.proofs.lemmas.List.{length-replicate}
-use Rattle.vax_asm_data.specs.Data.{Ending, Plain, Counted_first, Zero_last, Described, address_stated, addresses_stated, align_by, align_stated, align_to, at_most_one, before_pieces, behind_pieces, boundary, boundary_named, characters_of, count_stated, count_within, data_stated, descriptor_head, descriptor_stated, even_stated, expression_stated, fixed, is_nothing, item_stated, item_told, items_stated, one_or_two, behind_fill, byte_of, fill_by, fill_where, filled_by, filled_to, filling_with, piece_stated, place_behind, pieces_length, pieces_stated, placed_item, room, room_by, space_stated, text_by, text_parts, text_stated, to_odd, odd_stated, forward, unless_none, zero_stated}
+use Rattle.vax_asm_data.specs.Data.{Ending, Plain, Counted_first, Zero_last, Described, address_stated, addresses_stated, align_by, align_stated, align_to, at_most_one, before_pieces, behind_pieces, boundary, boundary_named, characters_of, count_stated, count_within, data_stated, descriptor_head, descriptor_stated, even_stated, expression_stated, fixed, is_nothing, item_stated, item_told, items_stated, one_or_two, behind_fill, byte_of, fill_by, fill_where, filled_by, filled_to, filling_with, piece_stated, place_behind, pieces_length, pieces_stated, placed_item, room, room_by, space_stated, text_by, text_parts, text_stated, to_odd, odd_stated, forward, moved, unless_none, zero_stated}
 use Rattle.std.specs.Prelude.{◌&&◌, ◌==◌, ◌-◌, ◌^◌, nat_lt, replicate, if◌then◌else◌}
 use Rattle.vax_dialect.specs.Differences.{has_empty_items, has_further_directives}
 use Rattle.vax_asm_second.proofs.Fitting.{data_length}
-use Rattle.vax_asm_sections.specs.Layout.{Bytes, Field, Part, Sections, Zeros, aligned, current_of, gap, place_in, put}
+use Rattle.vax_asm_sections.specs.Layout.{Bytes, Field, Part, Sections, Zeros, aligned, current_of, gap, is_absolute, place_in, put}
 use Rattle.vax_asm_sections.specs.declared.types.Refusal.{Refusal}
 use Rattle.vax_lex.specs.declared.token.Token.{Token}
 use Rattle.vax_lex.specs.Grammar.{symbols_of}
@@ -19,7 +19,7 @@ use Rattle.vax_asm_encode.specs.declared.operand.DataKind.TheVariants.{Number}
 use Rattle.vax_asm_first.specs.Faults.{fault_of_value, unless_place}
 use Rattle.vax_asm_first.specs.Fixups.{Filling, Fixup, Known, filling_by}
 use Rattle.vax_asm_first.specs.Progress.{Progress, Site, added, after_change, begun, counted, done, done_by, joined, site_of}
-use Rattle.vax_asm_first.specs.Standing.{Standing, misplaces, with_scope, with_sections}
+use Rattle.vax_asm_first.specs.Standing.{Standing, misplaces, set_back, with_scope, with_sections}
 use Rattle.vax_asm_first.specs.declared.types.Content.TheVariants.{Data}
 use Rattle.vax_asm_first.specs.declared.types.Origin.{Origin}
 use Rattle.vax_asm_statement.specs.Items.{Item, Piece, Characters, Value as ByteValue, item_of, pieces_of, whole}
@@ -27,7 +27,7 @@ use Rattle.vax_asm_statement.specs.Parts.{parts}
 use Rattle.vax_word.specs.declared.Size.TheVariants as size
 use Rattle.vax_asm_laws.specs.Counted.{AreCounted, BeginsAt, part_length}
 use Rattle.vax_asm_laws.specs.Lying.{MayStand}
-use Rattle.vax_asm_laws.proofs.Counting.{Step, align_step, put_step, step_same, step_then}
+use Rattle.vax_asm_laws.proofs.Counting.{Step, align_step, back_step, put_step, step_same, step_then}
 
 -- from what stands, whose sections are counted, to this
 abbrev pub Goes : Standing → Standing → Type 0
@@ -279,7 +279,19 @@ further_goes : (b : Bool) (n : ℕ) (s t : Standing) → IsCounted s → (if b t
 further_goes true n s t c e = cc
 further_goes false n s t c e = with_sections_goes s t (put n (Zeros n) s.sections) (λ u made. put_step n (Zeros n) s.sections u c refl tt tt made) e
 
-pub forward_goes : (to : ℕ) (s t : Standing) → IsCounted s → forward to s ≡ Ok t → Goes s t
+forward_goes : (to : ℕ) (s t : Standing) → IsCounted s → forward to s ≡ Ok t → Goes s t
 forward_goes to s t c e =
     let place = place_in (current_of s.sections) in
     further_goes (nat_lt to place) (to - place) s t c e
+
+moved_by_goes : (b : Bool) (to : ℕ) (s t : Standing) → IsCounted s → (if b then Ok (set_back to s) else forward to s) ≡ Ok t → Goes s t
+moved_by_goes true to s t c e =
+    let same : set_back to s ≡ t = cc in
+    subst (λ (x : Standing). Goes s x) same (back_step to s.sections c)
+moved_by_goes false to s t c e = forward_goes to s t c e
+
+pub moved_goes : (to : ℕ) (s t : Standing) → IsCounted s → moved to s ≡ Ok t → Goes s t
+unfolding moved
+moved_goes to s t c e =
+    let section = current_of s.sections in
+    moved_by_goes (is_absolute section && nat_lt to (place_in section)) to s t c e

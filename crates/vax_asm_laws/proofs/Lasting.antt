@@ -3,11 +3,11 @@ use Rattle.std.proofs.Common.{◌≡◌, ◌⊎◌, ◌+◌, ℕ, Bool, true, fa
 use Rattle.std.proofs.lemmas.Bool.{cases_eq, cases_lt}
 use Rattle.std.proofs.lemmas.List.{get_or_append_left, get_or_past, get_or-set_other}
 use Rattle.std.specs.List.{list_any}
-use Rattle.std.specs.Prelude.{◌==◌, ◌&&◌, ◌^◌, not, codes, if◌then◌else◌, map, nat_lt, slice_set}
+use Rattle.std.specs.Prelude.{◌==◌, ◌-◌, ◌&&◌, ◌^◌, not, codes, if◌then◌else◌, map, nat_lt, slice_set}
 use Rattle.std.specs.Str.{bytes_eq}
 use Rattle.vax_asm.specs.Placing.{FaultyLabel, Faulty, Placed, Stands, also, behind_label, beside, body_stated, directed, directive_named, if_wide, instructed, instruction_named, is_bad, is_listing, is_wide, operated_by, placed, placed_by, stated, stated_by, token_of, type_assigned, type_by, type_of_operand, with_range}
 use Rattle.vax_asm.specs.Walk.{Assembly}
-use Rattle.vax_asm_data.specs.Data.{Ending, Plain, Counted_first, Zero_last, Described, address_stated, addresses_stated, align_by, align_stated, align_to, at_most_one, before_pieces, behind_pieces, boundary, boundary_named, count_stated, count_within, data_stated, descriptor_head, descriptor_stated, even_stated, expression_stated, is_nothing, item_stated, items_stated, odd_stated, one_or_two, behind_fill, byte_of, fill_by, fill_where, filled_by, filling_with, piece_stated, pieces_length, pieces_stated, placed_item, room, room_by, space_stated, text_by, text_stated, unless_none, zero_stated}
+use Rattle.vax_asm_data.specs.Data.{Ending, Plain, Counted_first, Zero_last, Described, address_stated, addresses_stated, align_by, align_stated, align_to, at_most_one, before_pieces, behind_pieces, boundary, boundary_named, count_stated, count_within, data_stated, descriptor_head, descriptor_stated, even_stated, expression_stated, forward, is_nothing, item_stated, items_stated, odd_stated, one_or_two, behind_fill, byte_of, fill_by, fill_where, filled_by, filling_with, piece_stated, pieces_length, pieces_stated, placed_item, room, room_by, space_stated, text_by, text_stated, moved, unless_none, zero_stated}
 use Rattle.vax_asm_data.specs.Masks.{masked_stated, masked_told}
 use Rattle.vax_dialect.specs.Differences.{assigns_places, has_empty_items, has_further_directives, has_unnamed_psect}
 use Rattle.vax_asm_encode.specs.declared.operand.DataKind.{DataKind}
@@ -16,11 +16,11 @@ use Rattle.vax_asm_encode.specs.declared.operand.Operand.{Operand}
 use Rattle.vax_dialect.specs.declared.Dialect.{Dialect}
 use Rattle.vax_asm_first.specs.Fixups.{Assignment as Waiting, Filling, Fixup}
 use Rattle.vax_asm_first.specs.Progress.{Counted, Progress, Site, added, after_change, begun, counted, done, done_by, joined, site_of}
-use Rattle.vax_asm_first.specs.Standing.{Saved, Standing, block_of, here_at, here_in, last_of, misplaces, told, with_scope, with_sections, without_last}
+use Rattle.vax_asm_first.specs.Standing.{Saved, Standing, block_of, here_at, here_in, last_of, misplaces, set_back, told, with_scope, with_sections, without_last}
 use Rattle.vax_asm_first.specs.declared.types.Origin.{Origin}
 use Rattle.vax_asm_instruction.specs.Placing.{by_default, has_expression, operand_as, operand_at}
 use Rattle.vax_asm_instruction.specs.Stating as instruction
-use Rattle.vax_asm_instruction.specs.Stating.{Reached, fault_at, if_counted, instruction_stated, opcode_stated, operand_stated, operands_stated, prepared, read_of, reference_by, reference_stated, site_for}
+use Rattle.vax_asm_instruction.specs.Stating.{Reached, fault_at, front_stated, if_counted, instruction_stated, opcode_stated, operand_stated, operands_stated, prepared, read_of, reference_by, reference_stated, referred, referred_kind, site_for}
 use Rattle.vax_asm_instruction.specs.Typing.{typed_operand}
 use Rattle.vax_asm_labels.specs.Contexts.{block_restored, block_wanted, restored_by, restored_stated, saved_by, saved_stated}
 use Rattle.vax_asm_labels.specs.Defaults.{default_at, default_stated, displaced_by}
@@ -49,6 +49,8 @@ use Rattle.vax_asm_statement.specs.Parts.{parts}
 use Rattle.vax_asm_statement.specs.Reading.{Assignment, Malformed, Nothing, Operation, Parsed, What, parsed}
 use Rattle.vax_asm_statement.specs.declared.directives.Directive.{Directive}
 use Rattle.vax_asm_statement.specs.declared.directives.Directive.TheVariants as directive
+use Rattle.vax_asm_statement.specs.declared.directives.Referring.{Referring}
+use Rattle.vax_asm_statement.specs.declared.directives.Referring.TheVariants as referring
 use Rattle.vax_asm_statement.specs.declared.reading.Label.{Label}
 use Rattle.vax_asm_values.specs.Values.{Given, Source, ToCome, Worked, is_to_come, source_at, with_source}
 use Rattle.vax_isa.specs.Instructions.{Instruction}
@@ -62,7 +64,6 @@ use Rattle.vax_lex.specs.declared.value.Value.{Value}
 use Rattle.vax_lex.specs.declared.value.Value.TheVariants as value
 use Rattle.vax_macro.specs.declared.error.FaultKind.{FaultKind}
 use Rattle.vax_macro.specs.declared.error.FaultKind.TheVariants as fault
-use Rattle.vax_word.specs.declared.Size.{Size}
 use Rattle.vax_word.specs.declared.Size.TheVariants as size
 use Rattle.vax_asm_laws.specs.Leading.{Leads, Line, with_statement}
 use Rattle.vax_asm_laws.specs.Solving.{Stay}
@@ -525,12 +526,18 @@ instruction_in row origin line tokens s =
     counted_in (length (parts tokens) == row.count) s last.progress
     (stay_then s.scope.sources first.progress.standing.scope.sources last.progress.standing.scope.sources (added_lasts _ _ s) (operands_last (site_of origin line s) (parts tokens) row.operands first))
 
-reference_in : (k : Size) (site : Site) (found : List (List Token)) (s : Standing) → StandIn s (reference_by k site found s)
-reference_in k site [] s = tt
-reference_in k site (o ∷ []) s =
-    let one : Reached = operand_stated site (read_of k) o (current_of s.sections).size s in
-    done_in s one.progress (operand_lasts site (read_of k) o (current_of s.sections).size s)
-reference_in k site (o ∷ p ∷ more) s = tt
+front_lasts : (r : Referring) (s : Standing) → Lasts s.scope (front_stated r s).progress.standing.scope
+front_lasts (referring.Read k) s = stay_same s.scope.sources
+front_lasts referring.Pop s = added_lasts _ _ s
+
+reference_in : (r : Referring) (site : Site) (found : List (List Token)) (s : Standing) → StandIn s (reference_by r site found s)
+reference_in r site [] s = tt
+reference_in r site (o ∷ []) s =
+    let front : Reached = front_stated r s in
+    let last : Reached = referred r site o s in
+    done_in s last.progress
+    (stay_then s.scope.sources front.progress.standing.scope.sources last.progress.standing.scope.sources (front_lasts r s) (operand_lasts site (referred_kind r) o front.at front.progress.standing))
+reference_in r site (o ∷ p ∷ more) s = tt
 
 -- ---- statements
 
@@ -566,8 +573,16 @@ forward_in : (b : Bool) (s : Standing) (r : Result (Sections Fixup) Refusal) →
 forward_in true s r = tt
 forward_in false s r = sections_in s r
 
+back_in : (b : Bool) (to : ℕ) (s : Standing) (r : Result Standing FaultKind) → StandIn s r → StandIn s (if b then Ok (set_back to s) else r)
+back_in true to s r h = stay_same s.scope.sources
+back_in false to s r h = h
+
 moved_in : (n : Result ℕ FaultKind) (s : Standing) → StandIn s (moved_to n s)
-moved_in (Ok n) s = forward_in _ s _
+unfolding moved
+moved_in (Ok n) s =
+    let section = current_of s.sections in
+    let more = n - next_place section in
+    back_in (is_absolute section && nat_lt n (next_place section)) n s (forward n s) (forward_in (nat_lt n (next_place section)) s (put more (Zeros more) s.sections))
 moved_in (Err kind) s = tt
 
 place_in : (b : Bool) (site : Site) (tokens : List Token) (s : Standing) → StandIn s (place_assigned b site tokens s)
@@ -666,7 +681,7 @@ directed_in directive.DescribedText origin line tokens s = none_in tokens s _ (t
 directed_in (directive.Space k) origin line tokens s =
     most_in (parts tokens) s (λ count. room_by k (site_of origin line s) count s)
     (λ o. let c = counted (site_of origin line s) o s.scope in stand_then s (with_scope c.scope s) (room k (with_scope c.scope s) c.number) (counted_lasts (site_of origin line s) o s.scope) (room_in k (with_scope c.scope s) c.number))
-directed_in (directive.Reference k) origin line tokens s = reference_in k (site_of origin line s) (parts tokens) s
+directed_in (directive.Reference r) origin line tokens s = reference_in r (site_of origin line s) (parts tokens) s
 directed_in directive.Align origin line tokens s =
     one_or_two_in (parts tokens) s (λ one. align_by (site_of origin line s) one s) (λ one byte. fill_where (has_further_directives s.dialect) (site_of origin line s) one byte s)
     (λ one. let c = boundary (site_of origin line s) one (boundary_named line one) s.scope in

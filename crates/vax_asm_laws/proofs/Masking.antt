@@ -1,5 +1,5 @@
 -- Masks of entries.
-use Rattle.std.proofs.Common.{◌≡◌, ℕ, Bool, true, false, List, [], ◌∷◌, Option, Some, None, Result, Ok, Err}
+use Rattle.std.proofs.Common.{◌≡◌, ℕ, Bool, true, false, List, [], ◌∷◌, Option, Some, None, Ok, Err}
 use Rattle.std.specs.Prelude.{if◌then◌else◌}
 use Rattle.vax_asm_data.specs.Masks.{masked_stated, masked_told}
 use Rattle.vax_asm_encode.specs.Operands.{item_field}
@@ -9,14 +9,13 @@ use Rattle.vax_asm_first.specs.Fixups.{filling_by}
 use Rattle.vax_asm_first.specs.Progress.{Site, site_of}
 use Rattle.vax_asm_first.specs.Standing.{Standing, Told, here_at, here_in, misplaces, with_scope}
 use Rattle.vax_asm_first.specs.declared.types.Origin.{Origin}
-use Rattle.vax_asm_labels.specs.Masks.{key_of, mask_as, mask_at, mask_by, mask_named, mask_stated}
+use Rattle.vax_asm_labels.specs.Masks.{key_of, mask_as, mask_by, mask_named, mask_stated}
 use Rattle.vax_asm_labels.specs.Naming.{is_place, name_in}
 use Rattle.vax_asm_laws.proofs.Data.{Goes, IsCounted, done_goes, placed_goes}
 use Rattle.vax_asm_statement.specs.Items.{name_alone}
 use Rattle.vax_asm_statement.specs.Parts.{parts}
 use Rattle.vax_lex.specs.Grammar.{symbols_of}
 use Rattle.vax_lex.specs.declared.token.Token.{Token}
-use Rattle.vax_macro.specs.declared.error.FaultKind.{FaultKind}
 use Rattle.vax_macro.specs.declared.error.FaultKind.TheVariants as fault
 use Rattle.vax_word.specs.declared.Size.TheVariants as size
 

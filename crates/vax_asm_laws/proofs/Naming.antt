@@ -34,7 +34,7 @@ use Rattle.vax_word.specs.declared.Size.TheVariants as size
 use Rattle.vax_asm_encode.specs.declared.operand.DataKind.TheVariants.{Number}
 use Rattle.vax_asm_data.specs.Data.{item_stated}
 use Rattle.vax_asm_laws.proofs.Counting.{Step, select_step, step_same, step_then}
-use Rattle.vax_asm_laws.proofs.Data.{Goes, IsCounted, after_change_goes, done_goes, forward_goes, item_goes, unless_none_goes}
+use Rattle.vax_asm_laws.proofs.Data.{Goes, IsCounted, after_change_goes, done_goes, item_goes, moved_goes as moved_on_goes, unless_none_goes}
 
 -- the sections of what a statement leaves
 abbrev sections_in : Result Standing FaultKind → Standing → Sections Fixup
@@ -83,7 +83,7 @@ name_goes site global name tokens s t c e =
     (after_change_goes s r c (λ u made. assigned_goes global name s u (assigned name w.written w.scope) c made)) e
 
 moved_goes : (s t : Standing) (n : Result ℕ FaultKind) → IsCounted s → moved_to n s ≡ Ok t → Goes s t
-moved_goes s t (Ok n) c e = forward_goes n s t c e
+moved_goes s t (Ok n) c e = moved_on_goes n s t c e
 moved_goes s t (Err kind) c e = cc
 
 place_goes : (b : Bool) (site : Site) (tokens : List Token) (s t : Standing) → IsCounted s → place_assigned b site tokens s ≡ Ok t → Goes s t

@@ -7,15 +7,14 @@ use Rattle.vax_asm_encode.specs.Operands.{may_stand, takes_branch}
 use Rattle.vax_asm_encode.specs.declared.operand.Operand.{Operand}
 use Rattle.vax_asm_encode.specs.declared.operand.Operand.TheVariants as operand
 use Rattle.vax_asm_instruction.proofs.Back.{operand_is_long}
-use Rattle.vax_asm_instruction.proofs.Referring.{read_kind}
+use Rattle.vax_asm_instruction.proofs.Referring.{referring_kind}
 use Rattle.vax_asm_instruction.specs.Placing.{by_default, if_stands, operand_as, operand_at, operand_length, specifier_length}
-use Rattle.vax_asm_instruction.specs.Stating.{Prepared, Reached, behind, fault_at, fixed, fixup_at, if_counted, instruction_stated, opcode_stated, operand_stated, operands_stated, placed, prepared, read_of, reference_by, reference_stated, site_for}
+use Rattle.vax_asm_instruction.specs.Stating.{Prepared, Reached, behind, fault_at, fixed, fixup_at, front_stated, if_counted, instruction_stated, opcode_stated, operand_stated, operands_stated, placed, prepared, reference_by, reference_stated, referred_kind, site_for}
 use Rattle.vax_isa.specs.Rows.{IsFormed, IsKind, Plain}
 use Rattle.vax_isa.specs.declared.OperandKind.{OperandKind}
 use Rattle.vax_asm_sections.specs.Layout.{Bytes, Field as Kept, Part, Section, Sections, current_of, longer, unnamed, with_part}
 use Rattle.vax_lex.specs.declared.token.Token.{Token}
 use Rattle.vax_macro.specs.declared.error.FaultKind.{FaultKind}
-use Rattle.vax_word.specs.declared.Size.{Size}
 use Rattle.vax_asm_first.specs.Faults.{lowest}
 use Rattle.vax_asm_first.specs.Fixups.{Filling, Fixup}
 use Rattle.vax_asm_first.specs.Progress.{Progress, Site, added, done, done_by, site_of}
@@ -24,9 +23,11 @@ use Rattle.vax_asm_first.specs.Standing.{Standing, with_scope}
 use Rattle.vax_asm_first.specs.declared.types.Origin.{Origin}
 use Rattle.vax_asm_statement.specs.Parts.{parts}
 use Rattle.vax_asm_statement.specs.Sizes.{sized}
+use Rattle.vax_asm_statement.specs.declared.directives.Referring.{Referring}
+use Rattle.vax_asm_statement.specs.declared.directives.Referring.TheVariants as referring
 use Rattle.vax_asm_laws.specs.Counted.{BeginsAt, part_length}
 use Rattle.vax_asm_laws.specs.Lying.{MayStand}
-use Rattle.vax_asm_laws.proofs.Counting.{Step, part_step, step_then}
+use Rattle.vax_asm_laws.proofs.Counting.{Step, part_step, step_same, step_then}
 use Rattle.vax_asm_laws.proofs.Data.{Goes, IsCounted}
 
 -- An operand that is placed may stand there.
@@ -137,16 +138,22 @@ instruction_goes row origin line tokens s t formed c e =
     let fine : Fine s last = operands_fine site (parts tokens) row.operands s first are begun stated.0 in
     subst (λ (x : Standing). Goes s x) stated.1 fine.goes
 
-reference_goes_by : (size : Size) (site : Site) (found : List (List Token)) (s t : Standing) → IsCounted s → reference_by size site found s ≡ Ok t → Goes s t
-reference_goes_by size site [] s t c e = cc
-reference_goes_by size site (o ∷ []) s t c e =
-    let at : ℕ = (current_of s.sections).size in
-    let one : Reached = operand_stated site (read_of size) o at s in
-    let stated = done_ok one.progress.fault one.progress.standing t e in
-    let fine : Fine s one = one_fine site (read_of size) o at s (read_kind size (read_of size) refl) c refl stated.0 in
-    subst (λ (x : Standing). Goes s x) stated.1 fine.goes
-reference_goes_by size site (o ∷ p ∷ more) s t c e = cc
+front_fine : (r : Referring) (s : Standing) → IsCounted s → (front_stated r s).progress.fault ≡ None → Fine s (front_stated r s)
+front_fine (referring.Read k) s c h = record { goes = step_same s.sections c; at = refl }
+front_fine referring.Pop s c h = added_fine 2 (Bytes (0xD0 ∷ 0x8E ∷ [])) s tt c refl tt tt h
 
-pub reference_goes : (size : Size) (origin : Origin) (line : List ℕ) (tokens : List Token) (s t : Standing) → IsCounted s → reference_stated size origin line tokens s ≡ Ok t → Goes s t
+reference_goes_by : (r : Referring) (site : Site) (found : List (List Token)) (s t : Standing) → IsCounted s → reference_by r site found s ≡ Ok t → Goes s t
+reference_goes_by r site [] s t c e = cc
+reference_goes_by r site (o ∷ []) s t c e =
+    let front : Reached = front_stated r s in
+    let one : Reached = operand_stated site (referred_kind r) o front.at front.progress.standing in
+    let stated = done_ok (lowest front.progress.fault one.progress.fault) one.progress.standing t e in
+    let none = lowest_none front.progress.fault one.progress.fault stated.0 in
+    let first : Fine s front = front_fine r s c none.0 in
+    let fine : Fine front.progress.standing one = one_fine site (referred_kind r) o front.at front.progress.standing (referring_kind r) first.goes.counted first.at none.1 in
+    subst (λ (x : Standing). Goes s x) stated.1 (step_then s.sections front.progress.standing.sections one.progress.standing.sections first.goes fine.goes)
+reference_goes_by r site (o ∷ p ∷ more) s t c e = cc
+
+pub reference_goes : (r : Referring) (origin : Origin) (line : List ℕ) (tokens : List Token) (s t : Standing) → IsCounted s → reference_stated r origin line tokens s ≡ Ok t → Goes s t
 unfolding reference_stated
-reference_goes size origin line tokens s t c e = reference_goes_by size (site_of origin line s) (parts tokens) s t c e
+reference_goes r origin line tokens s t c e = reference_goes_by r (site_of origin line s) (parts tokens) s t c e

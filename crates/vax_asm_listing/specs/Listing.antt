@@ -1,7 +1,7 @@
 -- The listing of a program's modules: the lines of each with the addresses and the bytes of its statements, its sections and its names; and where
 -- the program begins (VAX MACRO and Instruction Set Reference Manual, "VAX MACRO listing").
 use Rattle.std.specs.Prelude.{ℕ, ◌+◌, ◌-◌, ◌*◌, ◌/◌, ◌%◌, ◌^◌, Bool, true, false, ◌&&◌, ◌==◌, nat_le, nat_lt, if◌then◌else◌, List, [], ◌∷◌, ◌++◌, length, max, take, drop, replicate, slice_index, codes, decimal, Option, Some, None}
-use Rattle.std.specs.List.{flat_map, list_all}
+use Rattle.std.specs.List.{filter_map, flat_map, list_all, reduce}
 use Rattle.std.specs.Str.{bytes_eq}
 use Rattle.vax_outside.specs.Hex.{hex}
 use Rattle.vax_lines.specs.Lines.{lines}
@@ -159,21 +159,40 @@ abbrev pub attribute : Bool → List ℕ
 attribute true = codes " WRT   "
 attribute false = codes " NOWRT "
 
--- a section: where it lies, how many bytes it has or lays over others, whether it may be written, and its name
+-- the name of a section
 abbrev pub name_cell : List ℕ → List ℕ
 name_cell [] = codes ". BLANK ."
 name_cell (c ∷ name) = c ∷ name
 
-abbrev pub extent_of : Section → ℕ
-extent_of s = max (length s.bytes) s.storage
+-- where a statement of this section ends, if that is absolute
+abbrev pub end_in : (number : ℕ) → Row → Option ℕ
+end_in number row = if row.absolute && row.section == number then Some row.end else None
 
-unfoldable pub section_line : (place : ℕ) → Section → List ℕ
-section_line place s = hex 8 place ++ (32 ∷ number_cell (extent_of s) ++ (attribute s.write ++ (name_cell s.name ++ 10 ∷ [])))
+-- How far an absolute section has counted: to the farthest end of its statements. Any other has none, and an absolute one has one at least, the `.PSECT`
+-- that chose it first.
+unfoldable pub counted_in : (number : ℕ) → List Row → Option ℕ
+counted_in number rows = reduce max (filter_map (end_in number) rows)
 
--- the sections of a module, behind so many
-unfoldable pub section_lines : Placing → ℕ → List Section → List ℕ
-section_lines p number [] = []
-section_lines p number (s ∷ sections) = section_line (slice_index p.places number) s ++ section_lines p (number + 1) sections
+-- An absolute section is at address 0, wherever others lie.
+abbrev pub begin_by : (counted : Option ℕ) → (place : ℕ) → ℕ
+begin_by (Some n) place = 0
+begin_by None place = place
+
+-- how far an absolute section has counted, or how many bytes another has or lays over others
+abbrev pub extent_by : (counted : Option ℕ) → Section → ℕ
+extent_by (Some n) s = n
+extent_by None s = max (length s.bytes) s.storage
+
+-- a section: where it lies, how long it is, whether it may be written, and its name
+unfoldable pub section_line : (place : ℕ) → (counted : Option ℕ) → Section → List ℕ
+section_line place counted s =
+    hex 8 (begin_by counted place) ++ (32 ∷ number_cell (extent_by counted s) ++ (attribute s.write ++ (name_cell s.name ++ 10 ∷ [])))
+
+-- the sections of a module with these rows, behind so many
+unfoldable pub section_lines : Placing → List Row → ℕ → List Section → List ℕ
+section_lines p rows number [] = []
+section_lines p rows number (s ∷ sections) =
+    section_line (slice_index p.places number) (counted_in number rows) s ++ section_lines p rows (number + 1) sections
 
 abbrev pub external_cell : List ℕ
 external_cell = codes "         EXT "
@@ -211,7 +230,7 @@ pub record Part : Type 0 where
 unfoldable pub module_lines : Placing → (number : ℕ) → Part → List ℕ
 module_lines p number m =
     title number ++ (source_lines p 0 (lines m.source) m.rows
-    ++ ((codes "SECTIONS" ++ 10 ∷ []) ++ (section_lines p 0 m.sections
+    ++ ((codes "SECTIONS" ++ 10 ∷ []) ++ (section_lines p m.rows 0 m.sections
     ++ ((codes "NAMES" ++ 10 ∷ []) ++ label_lines p m.labels))))
 
 -- modules behind so many; the first places are those of the first one's sections

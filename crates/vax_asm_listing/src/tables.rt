@@ -7,7 +7,7 @@ ghost use Rattle.vax_asm_listing.specs.Placings.{part_of, parts_of, placing_of};
 
 use crate::bytes::push_address;
 use crate::lines::{Placing, push_number, push_source};
-use crate::types::{Label, Part, Program};
+use crate::types::{Label, Part, Program, Row};
 use std::alloc::{AllocError, Global};
 use vax_lex::Value;
 use vax_module::Section;
@@ -23,21 +23,65 @@ fn push_name(out: &mut Vec<u8>, name: &[u8]) -> Result<(), AllocError>
     out.extend_from_slice(name)
 }
 
-/// How many bytes a section has, or lays over others.
-fn extent_of(section: &Section) -> u64
-    ensures { result ≡ spec.extent_of section.now }
+/// Where a statement of a section ends, if that is absolute.
+fn end_in(row: &Row, number: usize) -> Option<u32>
+    ensures { result ≡ spec.end_in number row.now }
 {
-    (section.bytes.as_slice().len() as u64).max(u64::from(section.storage))
+    if row.absolute && row.section == number {
+        Some(row.end)
+    } else {
+        None
+    }
 }
 
-/// Appends a section: where it lies, how many bytes it has or lays over others, whether it may be written, and its name.
-#[tactic(auto, unfolding(crate::specs::Listing::section_line))]
-fn push_section(out: &mut Vec<u8>, place: u32, section: &Section) -> Result<(), AllocError>
-    ensures { OnOk result (out.new.items ≡ out.old.items ++ spec.section_line place section.now) }
+/// How far a section has counted, if it is absolute.
+#[tactic(auto, unfolding(crate::specs::Listing::counted_in))]
+fn counted_in(rows: &[Row], number: usize) -> Option<u32>
+    ensures { result ≡ spec.counted_in number rows.now }
 {
-    push_address(out, place)?;
+    let mut most = None;
+    for row in rows {
+        if let Some(end) = end_in(row, number) {
+            most = Some(most.unwrap_or(0).max(end));
+        }
+    }
+    most
+}
+
+/// Where a section lies; an absolute one is at address 0.
+fn begin_by(counted: Option<u32>, place: u32) -> u32
+    ensures { result ≡ spec.begin_by counted place }
+{
+    match counted {
+        Some(_) => 0,
+        None => place,
+    }
+}
+
+/// How far an absolute section has counted, or how many bytes another has or lays over others.
+fn extent_by(counted: Option<u32>, section: &Section) -> u64
+    ensures { result ≡ spec.extent_by counted section.now }
+{
+    match counted {
+        Some(most) => u64::from(most),
+        None => (section.bytes.as_slice().len() as u64).max(u64::from(section.storage)),
+    }
+}
+
+/// Appends a section: where it lies, how long it is, whether it may be written, and its name.
+#[tactic(auto, unfolding(crate::specs::Listing::section_line))]
+fn push_section(
+    out: &mut Vec<u8>,
+    place: u32,
+    counted: Option<u32>,
+    section: &Section,
+) -> Result<(), AllocError>
+    ensures { OnOk result (out.new.items
+        ≡ out.old.items ++ spec.section_line place counted section.now) }
+{
+    push_address(out, begin_by(counted, place))?;
     out.push(b' ')?;
-    push_number(out, extent_of(section))?;
+    push_number(out, extent_by(counted, section))?;
     let attribute = if section.write {
         b" WRT   "
     } else {
@@ -49,18 +93,20 @@ fn push_section(out: &mut Vec<u8>, place: u32, section: &Section) -> Result<(), 
     Ok(())
 }
 
-/// Appends the sections of a module.
+/// Appends the sections of a module with these rows.
 #[tactic(auto, unfolding(crate::specs::Listing::section_lines))]
 fn push_sections(
     out: &mut Vec<u8>,
     placing: Placing<'_>,
+    rows: &[Row],
     sections: &[Section],
 ) -> Result<(), AllocError>
     ensures { OnOk result (out.new.items
-        ≡ out.old.items ++ spec.section_lines (placing_of placing.entry) 0 sections.now) }
+        ≡ out.old.items ++ spec.section_lines (placing_of placing.entry) rows.now 0 sections.now) }
 {
     for (number, section) in sections.iter().enumerate() {
-        push_section(out, placing.place(number), section)?;
+        let counted = counted_in(rows, number);
+        push_section(out, placing.place(number), counted, section)?;
     }
     Ok(())
 }
@@ -147,7 +193,12 @@ fn push_module(
     push_title(out, number)?;
     push_source(out, placing, part.source, &part.notes.rows)?;
     out.extend_from_slice(b"SECTIONS\n")?;
-    push_sections(out, placing, part.module.sections.as_slice())?;
+    push_sections(
+        out,
+        placing,
+        &part.notes.rows,
+        part.module.sections.as_slice(),
+    )?;
     out.extend_from_slice(b"NAMES\n")?;
     push_labels(out, placing, &part.notes.labels)
 }

@@ -78,6 +78,7 @@ pub struct NameTable {
     pub(crate) block: usize,
     /// Whether another module may define a name that appears from here on.
     pub(crate) assumes_external: bool,
-    pub ghost in_range: { (text : List ℕ) → ForSome (by_name numbers text) (λ i. i < length names.items) },
+    pub ghost in_range: { (text : List ℕ) → ForSome (by_name numbers text)
+        (λ i. i < length names.items) },
     pub ghost in_block: { block ≤ length further_blocks.items + 1 },
 }

@@ -65,7 +65,8 @@ pub(crate) fn add_meaning(
     requires within { IsTokenOf line.now key }
     requires kind { key.kind ≡ Name }
     ensures { OnOk result (map meaning_of names.new.items ≡ map meaning_of names.old.items
-        ++ record { name = canonical_name (token_text line.now key); definition = definition } ∷ []) }
+        ++ record { name = canonical_name (token_text line.now key); definition = definition }
+        ∷ []) }
 {
     let text = kept_text(line, key);
     let name = text.as_bytes().to_vec(alloc).map_err(|_| NoMemory)?;

@@ -105,6 +105,14 @@ put_within n part s = if exceeds (place_in (current_of s)) s.total n then Err To
 unfoldable pub put : {F : Type 0} → ℕ → Part F → Sections F → Result (Sections F) Refusal
 put n part s = if refuses (current_of s) part then Err Absolute else put_within n part s
 
+-- The current section, which is absolute, goes on at a place before. It has no bytes, so nothing comes to stand over others. The
+-- size of all is less by what it goes back.
+abbrev pub set_back : {F : Type 0} → ℕ → Section F → Section F
+set_back to s = record s { counter = Some to }
+
+abbrev pub with_set_back : {F : Type 0} → ℕ → Sections F → Sections F
+with_set_back to s = record s { all = slice_set s.all s.current (set_back to (current_of s)); total = s.total - (place_in (current_of s) - to) }
+
 -- the bytes up to the next multiple
 abbrev pub gap : ℕ → ℕ → ℕ
 gap size boundary = (boundary - size % boundary) % boundary

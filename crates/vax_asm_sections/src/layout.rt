@@ -1,8 +1,8 @@
 // The sections of a module while it is assembled.
 
-ghost use Rattle.std.specs.Prelude.{◌≡◌, ◌<◌, ◌≤◌, ◌+◌, ◌^◌, IfOk, OnOk, OnErr, IfSome, None, Some, length, map};
+ghost use Rattle.std.specs.Prelude.{◌≡◌, ◌<◌, ◌≤◌, ◌+◌, ◌^◌, IfOk, OnOk, OnErr, IfSome, None, Some, length, map, true};
 ghost use Rattle.vax_asm_names.specs.ByName.{by_name, with_entry};
-ghost use Rattle.vax_asm_sections.specs.Layout.{gap, alignment, differs, says_otherwise, overlays_otherwise, conflicts, exceeds, longer, place_in, raised, refuses, start_of, is_absolute, only_counts, at_first, current_of, with_part, with_raised, put, aligned, numbered, made, gone_back, begun, selected};
+ghost use Rattle.vax_asm_sections.specs.Layout.{gap, alignment, differs, says_otherwise, overlays_otherwise, conflicts, exceeds, longer, place_in, raised, refuses, set_back, start_of, is_absolute, only_counts, at_first, current_of, with_part, with_raised, with_set_back, put, aligned, numbered, made, gone_back, begun, selected};
 ghost use Rattle.vax_asm_sections.specs.View.{part_of, section_of, sections_of, Leaves};
 
 use crate::types::{Attributes, Building, Layout, Piece, Refusal};
@@ -140,6 +140,15 @@ impl<F> Building<F> {
         self.pieces.push(piece)?;
         self.size += more;
         Ok(())
+    }
+
+    /// Goes on at a place before.
+    fn set_back(&mut self, to: u32)
+        requires { to ≤ 1048576 }
+        ensures back { section_of self.new ≡ set_back to (section_of self.old) }
+        ensures named { self.new.name ≡ self.old.name }
+    {
+        self.counter = Some(to);
     }
 
     fn raise(&mut self, align: u8)
@@ -281,6 +290,18 @@ impl<F> Layout<F> {
         }
         self.add(more, piece).map_err(|_| Refusal::NoMemory)?;
         Ok(())
+    }
+
+    /// The section that the next statement goes into, which is absolute, goes on at a place before.
+    #[tactic(auto, using(crate::proofs::Changing::back_seen))]
+    pub fn set_back(&mut self, to: u32)
+        requires absolute { is_absolute (current_of (sections_of self.old)) ≡ true }
+        requires before { to ≤ place_in (current_of (sections_of self.old)) }
+        ensures { sections_of self.new ≡ with_set_back to (sections_of self.old) }
+    {
+        let back = self.current().place() - to;
+        self.sections[self.current].set_back(to);
+        self.total = self.total.saturating_sub(back);
     }
 
     /// `.ALIGN`: fills the section that the next statement goes into with zero bytes up to a multiple of a power of two,

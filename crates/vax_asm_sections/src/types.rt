@@ -76,5 +76,6 @@ pub struct Layout<F> {
     pub(crate) current: usize,
     pub(crate) total: u32,
     pub ghost in_range: { current < length sections.items },
-    pub ghost known: { (name : List ℕ) → by_name numbers name ≡ placed 0 name (map (λ section. section.name.items) sections.items) },
+    pub ghost known: { (name : List ℕ) → by_name numbers name
+        ≡ placed 0 name (map (λ section. section.name.items) sections.items) },
 }

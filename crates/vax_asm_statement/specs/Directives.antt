@@ -7,6 +7,7 @@ use Rattle.vax_word.specs.declared.Size.TheVariants as size
 use Rattle.vax_asm_encode.specs.declared.operand.DataKind.TheVariants.{Number, Signed, Octaword}
 use Rattle.vax_asm_statement.specs.declared.directives.Directive.{Directive}
 use Rattle.vax_asm_statement.specs.declared.directives.Directive.TheVariants.{Section, Entry, Data, Address, Text, CountedText, ZeroText, DescribedText, Space, Reference, Align, Even, Odd, Global, Weak, External, Enable, Disable, Default, Save, Restore, Listing, OperandType, Mask, Error, End}
+use Rattle.vax_asm_statement.specs.declared.directives.Referring.TheVariants.{Read, Pop}
 use Rattle.vax_asm_statement.specs.declared.directives.Named.{Named}
 use Rattle.vax_asm_statement.specs.declared.directives.Attribute.{Attribute}
 use Rattle.vax_asm_statement.specs.declared.directives.Attribute.TheVariants.{Align as AlignTo, Write, Absolute, Overlaid, Ignored}
@@ -50,7 +51,8 @@ directives =
     ∷ []
 
 -- Those of one dialect alone. `.MCALL` and `.LIBRARY` name where macros are, which stand in the source here; `.LINK` names what is
--- linked, `.TRANSFER` a vector of a shareable image; `.PRINT` and `.WARN` give messages, and `.ERROR` one that is a fault.
+-- linked, `.TRANSFER` a vector of a shareable image; `.PRINT` and `.WARN` give messages, and `.ERROR` one that is a fault. `POPL` is a
+-- name in the table of opcodes, without an instruction of its own.
 abbrev pub further_directives : List (List ℕ × Directive)
 further_directives =
     (codes ".ASCID", DescribedText)
@@ -60,10 +62,11 @@ further_directives =
     ∷ (codes ".BLKF", Space (Number size.L))
     ∷ (codes ".BLKD", Space (Number size.Q))
     ∷ (codes ".BLKG", Space (Number size.Q))
-    ∷ (codes ".REF1", Reference size.B)
-    ∷ (codes ".REF2", Reference size.W)
-    ∷ (codes ".REF4", Reference size.L)
-    ∷ (codes ".REF8", Reference size.Q)
+    ∷ (codes ".REF1", Reference (Read size.B))
+    ∷ (codes ".REF2", Reference (Read size.W))
+    ∷ (codes ".REF4", Reference (Read size.L))
+    ∷ (codes ".REF8", Reference (Read size.Q))
+    ∷ (codes "POPL", Reference Pop)
     ∷ (codes ".NTYPE", OperandType)
     ∷ (codes ".MASK", Mask)
     ∷ (codes ".ODD", Odd)

@@ -8,8 +8,17 @@ use vax_asm_encode::DataKind;
 use vax_dialect::Dialect;
 use vax_word::Size;
 
+/// An operand that stands without the name of an instruction.
+#[derive(Clone, Copy, PartialEq, Eq)]
+pub enum Referring {
+    /// `.REF1`, `.REF2`, `.REF4`, `.REF8`: one that reads so many bytes, without an opcode.
+    Read(Size),
+    /// `POPL`: one that the longword is written to that is taken from the stack, as by `MOVL (SP)+`.
+    Pop,
+}
+
 /// What a directive does (VAX MACRO and Instruction Set Reference Manual, "VAX MACRO assembler directives"). The directives of
-/// macros, repeats and conditions are not among them.
+/// macros, repeats and conditions are not among them, but an operator is that stands for bytes and an operand (opcode table, `POPL`).
 #[derive(Clone, Copy, PartialEq, Eq)]
 pub enum Directive {
     /// `.PSECT name,attributes`.
@@ -30,8 +39,8 @@ pub enum Directive {
     DescribedText,
     /// `.BLKB`, `.BLKW`, `.BLKL`, `.BLKA`, `.BLKQ`, `.BLKF`, `.BLKD`, `.BLKG`, `.BLKO`, `.BLKH`: room for so many items of this kind.
     Space(DataKind),
-    /// `.REF1`, `.REF2`, `.REF4`, `.REF8`: an operand that has so many bytes, without an opcode.
-    Reference(Size),
+    /// `.REF1`, `.REF2`, `.REF4`, `.REF8`, `POPL`: an operand.
+    Reference(Referring),
     /// `.ALIGN`: up to a multiple of a power of two.
     Align,
     /// `.EVEN`: up to a multiple of two.
@@ -118,7 +127,7 @@ fn all_directives() -> &'static [Named; 33]
 
 /// Those of one dialect alone.
 #[rattlefmt::skip]
-static FURTHER_DIRECTIVES: [Named; 34] = [
+static FURTHER_DIRECTIVES: [Named; 35] = [
     Named { name: ".ASCID", directive: Directive::DescribedText },
     Named { name: ".OCTA", directive: Directive::Data(DataKind::Octaword) },
     Named { name: ".BLKO", directive: Directive::Space(DataKind::Octaword) },
@@ -126,10 +135,11 @@ static FURTHER_DIRECTIVES: [Named; 34] = [
     Named { name: ".BLKF", directive: Directive::Space(DataKind::Number(Size::L)) },
     Named { name: ".BLKD", directive: Directive::Space(DataKind::Number(Size::Q)) },
     Named { name: ".BLKG", directive: Directive::Space(DataKind::Number(Size::Q)) },
-    Named { name: ".REF1", directive: Directive::Reference(Size::B) },
-    Named { name: ".REF2", directive: Directive::Reference(Size::W) },
-    Named { name: ".REF4", directive: Directive::Reference(Size::L) },
-    Named { name: ".REF8", directive: Directive::Reference(Size::Q) },
+    Named { name: ".REF1", directive: Directive::Reference(Referring::Read(Size::B)) },
+    Named { name: ".REF2", directive: Directive::Reference(Referring::Read(Size::W)) },
+    Named { name: ".REF4", directive: Directive::Reference(Referring::Read(Size::L)) },
+    Named { name: ".REF8", directive: Directive::Reference(Referring::Read(Size::Q)) },
+    Named { name: "POPL", directive: Directive::Reference(Referring::Pop) },
     Named { name: ".NTYPE", directive: Directive::OperandType },
     Named { name: ".MASK", directive: Directive::Mask },
     Named { name: ".ODD", directive: Directive::Odd },
@@ -155,7 +165,7 @@ static FURTHER_DIRECTIVES: [Named; 34] = [
     Named { name: ".ERROR", directive: Directive::Error },
 ];
 
-fn all_further_directives() -> &'static [Named; 34]
+fn all_further_directives() -> &'static [Named; 35]
     ensures { map named result.now ≡ further_directives }
 {
     &FURTHER_DIRECTIVES

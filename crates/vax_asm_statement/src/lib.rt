@@ -15,7 +15,7 @@ mod registers;
 mod sizes;
 mod tokens;
 
-pub use directives::{Attribute, Directive, attribute_named, directive_named};
+pub use directives::{Attribute, Directive, Referring, attribute_named, directive_named};
 pub use items::{Item, Piece, is_local, name_alone, pieces, read_item};
 pub use modes::{Mode, Written, is_general, operand};
 pub use operators::parts;

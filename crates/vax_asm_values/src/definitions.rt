@@ -17,7 +17,9 @@ use vax_space::NoMemory;
 #[derive(Drop)]
 pub struct Definitions {
     board: Board,
-    ghost settled: { Settled (sources_in board.sources) board.values.items (lists_in board.waiting) } by { settled_prop (sources_in board.sources) board.values.items (lists_in board.waiting) },
+    ghost settled: { Settled (sources_in board.sources) board.values.items
+        (lists_in board.waiting) } by { settled_prop (sources_in board.sources)
+            board.values.items (lists_in board.waiting) },
     ghost values: { length board.values.items ≡ length board.sources.items },
     ghost waiting: { length board.waiting.items ≡ length board.sources.items },
 }

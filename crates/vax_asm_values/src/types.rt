@@ -25,7 +25,8 @@ pub struct Expression {
     pub(crate) text: Rc<Vec<u8>>,
     pub(crate) tokens: Vec<Token>,
     pub(crate) names: Vec<Meaning>,
-    ghost own: { All (IsTokenOf text.value.items) tokens.items } by { tokens_prop text.value.items tokens.items },
+    ghost own: { All (IsTokenOf text.value.items) tokens.items } by { tokens_prop
+        text.value.items tokens.items },
 }
 
 impl Expression {

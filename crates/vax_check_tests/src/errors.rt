@@ -228,3 +228,51 @@ fn a_source_says_that_it_is_wrong(rt: HostRuntime) -> Result<(), Fail> {
     assert!(rt; tells(&rt, row)?);
     Ok(())
 }
+
+#[test]
+fn tabs_of_expansions_are_blanks(rt: HostRuntime) -> Result<(), Fail> {
+    let rows = [
+        // a tab in the line of an expansion is a blank
+        Row {
+            source: "\t.MACRO M X\n\tMOVX\tX\n\t.ENDM\n\tM R1\n",
+            told: "a.mar:4:2: error: 2: no instruction, directive or macro has this name, or `.` is assigned to: `MOVX`\n\tM R1\n\t^\na.mar:4: in the expansion of macro M, its line 1:  MOVX R1\n",
+        },
+    ];
+    for row in rows {
+        assert!(rt; tells_in(&rt, Dialect::Vms, row)?);
+    }
+    Ok(())
+}
+
+#[test]
+fn places_texts_and_refused_lines_are_told(rt: HostRuntime) -> Result<(), Fail> {
+    let rows = [
+        Row {
+            source: " .PSECT D\n .BLKB 4\n. = .-3\n",
+            told: "a.mar:3:1: error: 7: a number or a distance is out of range: `.` goes forward alone here, not by -3\n. = .-3\n^\n",
+        },
+        // nine characters, and a number of 65 bits
+        Row {
+            source: " .QUAD ^A/ABCDEFGH/\n .LONG ^A/ABCDEFGHI/\n",
+            told: "a.mar:2:10: error: 4: an operand or an expression has no form that may stand here: `^A` takes 1 to 8 characters\n .LONG ^A/ABCDEFGHI/\n         ^\n",
+        },
+        Row {
+            source: " .OCTA 18446744073709551616\n",
+            told: "a.mar:1:8: error: 7: a number or a distance is out of range: a number has at most 64 bits\n .OCTA 18446744073709551616\n       ^\n",
+        },
+        // a label on a line that is refused
+        Row {
+            source: "L: .LONG ^Q\nW: .LONG W-L\n",
+            told: "a.mar:1:10: error: 1: a byte belongs to no token, or the line is too long: nothing begins with `^` here\nL: .LONG ^Q\n         ^\na.mar:2:12: error: 4: an operand or an expression has no form that may stand here: line 1, on which `L` stands, has a fault\nW: .LONG W-L\n           ^\n",
+        },
+        // a fault behind the first line of a statement
+        Row {
+            source: " .LONG 1,-\n ^Q5\n",
+            told: "a.mar:1:2: error: 1: a byte belongs to no token, or the line is too long: nothing begins with `^` here\n .LONG 1,-\n ^\n",
+        },
+    ];
+    for row in rows {
+        assert!(rt; tells_in(&rt, Dialect::Vms, row)?);
+    }
+    Ok(())
+}

@@ -11,7 +11,7 @@ use vax_machine::{Limits, Machine};
 use vax_outside::{Chan, Fail, MemPages, MemSink, Text};
 use vax_sched::Schedule;
 use vax_space::{Area, Bytes, Space};
-use vax_word::{Core, Psl};
+use vax_test_machines::machine_from;
 
 /// A machine at 80000200 with so many pages that the kernel may write, which begin with these bytes, and behind them one that no mode may write.
 fn machine(alloc: Global, pages: u8, bytes: &[u8]) -> Result<Machine, TestFail>
@@ -33,16 +33,7 @@ fn machine(alloc: Global, pages: u8, bytes: &[u8]) -> Result<Machine, TestFail>
     }
     let mut regs = [0; 16];
     regs[15] = 0x8000_0200;
-    let core = Core {
-        regs,
-        psl: Psl(0x001F_0000),
-        stacks: [0; 5],
-        sisr: 0,
-        iccs: 0,
-        clock: 0,
-    };
-    let space = Space::new(alloc, areas)?;
-    Ok(Machine::new(alloc, space, core, Vec::new(alloc), 64)?)
+    machine_from(alloc, Space::new(alloc, areas)?, regs)
 }
 
 /// How a session of a script on such a machine ends, with such limits and faults of the page file, and its replies.

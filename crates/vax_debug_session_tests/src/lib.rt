@@ -4,6 +4,4 @@
 #[cfg(test)]
 mod acts;
 #[cfg(test)]
-mod machines;
-#[cfg(test)]
 mod sessions;

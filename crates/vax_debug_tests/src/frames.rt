@@ -1,24 +1,17 @@
 //! Tests of frames of calls, as they are shown. Expected texts are worked by hand.
-use crate::machines::{Around, machine_with, surroundings, untold};
 use std::alloc::Global;
 use std::test::Fail;
 use vax_debug::{deposit, deposit_register};
 use vax_debug_views::show_frames;
 use vax_machine::Machine;
-use vax_outside::{Chan, MemSink};
+use vax_outside::Chan;
+use vax_test_machines::{Around, machine_with, surroundings, untold};
 
 /// A frame at 80000200 with R2 and R3, whose caller goes on at 80000300 and has no frame; and behind it, at 8000021C, a list of three arguments.
 const FRAME: [u8; 44] = [
     0, 0, 0, 0, 0, 0, 0x0C, 0, 0, 0, 0, 0, 0, 0, 0, 0, 0, 3, 0, 0x80, 1, 0, 0, 0, 0xEF, 0xCD, 0xAB,
     0x89, 3, 0xFF, 0xFF, 0xFF, 5, 0, 0, 0, 6, 0, 0, 0, 7, 0, 0, 0,
 ];
-
-/// Room for replies of 400 bytes.
-fn room(alloc: Global) -> Result<Around, Fail> {
-    let mut a = surroundings(alloc)?;
-    a.sink = MemSink::new(alloc, [100, 400, 0], 100, Vec::new(alloc))?;
-    Ok(a)
-}
 
 /// A machine with these bytes at 80000200, which is in a procedure with this frame and these arguments.
 fn called(alloc: Global, a: &Around, bytes: &[u8], fp: u32, ap: u32) -> Result<Machine, Fail> {
@@ -30,7 +23,7 @@ fn called(alloc: Global, a: &Around, bytes: &[u8], fp: u32, ap: u32) -> Result<M
 
 #[test]
 fn arguments_and_saved_registers_are_shown(rt: HostRuntime) -> Result<(), Fail> {
-    let mut a = room(rt.alloc())?;
+    let mut a = surroundings(rt.alloc(), 400)?;
     let mut machine = called(rt.alloc(), &a, &FRAME, 0x8000_0200, 0x8000_021C)?;
     assert!(rt; show_frames(&untold(), &mut machine, &mut a.file, &mut a.sink).is_ok());
     assert!(rt;
@@ -46,7 +39,7 @@ fn arguments_and_saved_registers_are_shown(rt: HostRuntime) -> Result<(), Fail> 
 
 #[test]
 fn without_a_frame_nothing_is_kept(rt: HostRuntime) -> Result<(), Fail> {
-    let mut a = room(rt.alloc())?;
+    let mut a = surroundings(rt.alloc(), 400)?;
     let mut machine = called(rt.alloc(), &a, &FRAME, 0, 0x8000_021C)?;
     assert!(rt; show_frames(&untold(), &mut machine, &mut a.file, &mut a.sink).is_ok());
     assert!(rt; a.sink.bytes(Chan::Report) == b"0 80000200 FP 00000000 AP 8000021C\n".as_slice());
@@ -63,7 +56,7 @@ fn sixteen_arguments_are_shown(rt: HostRuntime) -> Result<(), Fail> {
         }
     }
     list[0] = 17;
-    let mut a = room(rt.alloc())?;
+    let mut a = surroundings(rt.alloc(), 400)?;
     let mut machine = called(rt.alloc(), &a, &list, 0x8000_0300, 0x8000_0200)?;
     assert!(rt; show_frames(&untold(), &mut machine, &mut a.file, &mut a.sink).is_ok());
     assert!(rt;
@@ -80,7 +73,7 @@ fn sixteen_arguments_are_shown(rt: HostRuntime) -> Result<(), Fail> {
 #[test]
 fn an_argument_may_lie_outside_of_memory(rt: HostRuntime) -> Result<(), Fail> {
     // two arguments, of which memory has the first alone
-    let mut a = room(rt.alloc())?;
+    let mut a = surroundings(rt.alloc(), 400)?;
     let mut machine = called(rt.alloc(), &a, &[], 0x8000_0300, 0x8000_05F8)?;
     let list = [2, 0, 0, 0, 7, 0, 0, 0];
     assert!(rt; deposit(0x8000_05F8, &list, &mut machine, &mut a.file) == Ok(true));
@@ -98,7 +91,7 @@ fn an_argument_may_lie_outside_of_memory(rt: HostRuntime) -> Result<(), Fail> {
 #[test]
 fn a_saved_register_may_lie_outside_of_memory(rt: HostRuntime) -> Result<(), Fail> {
     // a frame with R0 and R11, behind which memory ends; no list of arguments
-    let mut a = room(rt.alloc())?;
+    let mut a = surroundings(rt.alloc(), 400)?;
     let mut machine = called(rt.alloc(), &a, &[], 0x8000_05EC, 0x8000_0700)?;
     assert!(rt; deposit(0x8000_05F2, &[1, 8], &mut machine, &mut a.file) == Ok(true));
     assert!(rt; show_frames(&untold(), &mut machine, &mut a.file, &mut a.sink).is_ok());

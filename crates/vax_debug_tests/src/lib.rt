@@ -4,8 +4,6 @@
 #[cfg(test)]
 mod frames;
 #[cfg(test)]
-mod machines;
-#[cfg(test)]
 mod names;
 #[cfg(test)]
 mod steps;

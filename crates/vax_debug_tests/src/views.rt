@@ -2,7 +2,6 @@
 ghost use Rattle.std.specs.Prelude.{◌<◌};
 ghost use Rattle.vax_debug_words.specs.Expressions.{IsExpression};
 
-use crate::machines::{machine_with, surroundings, untold};
 use std::test::Fail;
 use vax_debug::{Breaks, Failure};
 use vax_debug_views::{
@@ -11,6 +10,7 @@ use vax_debug_views::{
 };
 use vax_debug_words::{Base, Expression, Form, Refusal, Span};
 use vax_outside::Chan;
+use vax_test_machines::{machine_with, surroundings, untold};
 
 /// BSBB to the INCL of R2, and the bytes behind it.
 const CALL: [u8; 4] = [0x10, 4, 0xD6, 0x51];
@@ -30,7 +30,7 @@ fn held(register: u8) -> Expression
 #[test]
 fn shows_registers(rt: HostRuntime) -> Result<(), Fail> {
     let machine = machine_with(rt.alloc(), &CALL)?;
-    let mut a = surroundings(rt.alloc())?;
+    let mut a = surroundings(rt.alloc(), 100)?;
     assert!(rt; show_register(14, &machine, &a.file, &mut a.sink).is_ok());
     assert!(rt; show_status(&machine, &a.file, &mut a.sink).is_ok());
     assert!(rt;
@@ -43,7 +43,7 @@ fn shows_registers(rt: HostRuntime) -> Result<(), Fail> {
 #[test]
 fn shows_memory(rt: HostRuntime) -> Result<(), Fail> {
     let mut machine = machine_with(rt.alloc(), &CALL)?;
-    let mut a = surroundings(rt.alloc())?;
+    let mut a = surroundings(rt.alloc(), 100)?;
     let legend = untold();
     let span = Span {
         from: held(15),
@@ -69,7 +69,7 @@ fn shows_memory(rt: HostRuntime) -> Result<(), Fail> {
 #[test]
 fn shows_instructions(rt: HostRuntime) -> Result<(), Fail> {
     let mut machine = machine_with(rt.alloc(), &CALL)?;
-    let mut a = surroundings(rt.alloc())?;
+    let mut a = surroundings(rt.alloc(), 100)?;
     let legend = untold();
     let span = Span {
         from: held(15),
@@ -88,7 +88,7 @@ fn shows_instructions(rt: HostRuntime) -> Result<(), Fail> {
 #[test]
 fn shows_frames_and_queues(rt: HostRuntime) -> Result<(), Fail> {
     let mut machine = machine_with(rt.alloc(), &CALL)?;
-    let mut a = surroundings(rt.alloc())?;
+    let mut a = surroundings(rt.alloc(), 100)?;
     let legend = untold();
     assert!(rt; show_frames(&legend, &mut machine, &mut a.file, &mut a.sink).is_ok());
     assert!(rt; show_queue(&held(15), &legend, &mut machine, &mut a.file, &mut a.sink).is_ok());
@@ -101,7 +101,7 @@ fn shows_frames_and_queues(rt: HostRuntime) -> Result<(), Fail> {
 
 #[test]
 fn replies_without_a_machine(rt: HostRuntime) -> Result<(), Fail> {
-    let mut a = surroundings(rt.alloc())?;
+    let mut a = surroundings(rt.alloc(), 100)?;
     let legend = untold();
     assert!(rt; reply(b"OK\n", &mut a.sink).is_ok());
     assert!(rt; reply_nowhere(&mut a.sink).is_ok());

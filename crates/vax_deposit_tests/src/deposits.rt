@@ -3,73 +3,17 @@ use std::alloc::Global;
 use std::process::Abort;
 use std::test::Fail;
 use vax_flat::Ending;
-use vax_machine::{Applied, Event, Limits, Machine, RunEnd};
+use vax_machine::{Applied, Event, Machine, RunEnd};
 use vax_outside::{MemPages, MemSink};
 use vax_pager::PageFault;
 use vax_sched::{Schedule, read};
-use vax_space::{Area, Bytes, Space};
+use vax_test_machines::{MOVES, machine, machine_over, pages, run_up};
 use vax_undo::Term;
-use vax_word::{Core, Psl};
-
-/// So many pages, from page 0 on, which begin with these bytes and which every mode may write.
-fn pages(alloc: Global, count: u32, bytes: &[u8]) -> Result<Space, Fail> {
-    let mut areas = Vec::new(alloc);
-    areas.push(Area {
-        first: 0,
-        pages: count,
-        prot: 4,
-        bytes: Bytes::from(bytes.to_vec(alloc)?),
-    })?;
-    Ok(Space::new(alloc, areas)?)
-}
-
-/// Pages 0 to 7.
-fn space(alloc: Global, bytes: &[u8]) -> Result<Space, Fail> {
-    pages(alloc, 8, bytes)
-}
-
-/// A machine over a space, with registers of 0 in kernel mode and 64 frames.
-fn machine_over(alloc: Global, space: Space) -> Result<Machine, Fail> {
-    let core = Core {
-        regs: [0; 16],
-        psl: Psl(0x001F_0000),
-        stacks: [0; 5],
-        sisr: 0,
-        iccs: 0,
-        clock: 0,
-    };
-    Ok(Machine::new(alloc, space, core, Vec::new(alloc), 64)?)
-}
-
-/// A machine over eight pages.
-fn machine(alloc: Global, bytes: &[u8]) -> Result<Machine, Fail> {
-    machine_over(alloc, space(alloc, bytes)?)
-}
-
-/// MOVL #89ABCDEF,@#400, MOVL @#400,R1 and HALT.
-const PROGRAM: &[u8] = &[
-    0xD0, 0x8F, 0xEF, 0xCD, 0xAB, 0x89, 0x9F, 0, 4, 0, 0, 0xD0, 0x9F, 0, 4, 0, 0, 0x51, 0,
-];
-
-/// Runs for at most 100 steps and 100 attempts.
-fn run_up(
-    machine: &mut Machine,
-    schedule: &Schedule,
-    file: &mut MemPages,
-    sink: &mut MemSink,
-) -> RunEnd {
-    let limits = Limits {
-        steps: 100,
-        turns: 100,
-        listed: true,
-    };
-    machine.run(&limits, schedule, file, sink)
-}
 
 #[test]
 fn changes_registers(rt: HostRuntime) -> Result<(), Fail> {
     let alloc = rt.alloc();
-    let mut machine = machine(alloc, PROGRAM)?;
+    let mut machine = machine(alloc, &MOVES)?;
     if !machine.is_open() {
         machine.set_reg(3, 0xCAFE);
     }
@@ -102,7 +46,7 @@ fn fill_frames(machine: &mut Machine, file: &mut MemPages) -> bool {
 #[test]
 fn shows_and_changes(rt: HostRuntime) -> Result<(), Fail> {
     let alloc = rt.alloc();
-    let mut machine = machine(alloc, PROGRAM)?;
+    let mut machine = machine(alloc, &MOVES)?;
     let mut file = MemPages::new(alloc, 8, 100, Vec::new(alloc))?;
     assert!(rt; change(&mut machine, 0x3FF, &[1, 2], &mut file) == Ok(true));
     assert!(rt; change(&mut machine, 0xFFF, &[5, 6], &mut file) == Ok(false));
@@ -161,7 +105,7 @@ fn changes_nothing_where_a_call_fails(rt: HostRuntime) -> Result<(), Fail> {
 #[test]
 fn shows_pages(rt: HostRuntime) -> Result<(), Fail> {
     let alloc = rt.alloc();
-    let mut machine = machine(alloc, PROGRAM)?;
+    let mut machine = machine(alloc, &MOVES)?;
     let mut file = MemPages::new(alloc, 8, 100, Vec::new(alloc))?;
     let mut sink = MemSink::new(alloc, [100; 3], 100, Vec::new(alloc))?;
     let evicting = read(alloc, b"each 2 all\n", machine.space())?;
@@ -199,39 +143,50 @@ fn part(machine: &mut Machine, file: &mut MemPages) -> bool {
     false
 }
 
+/// Memory that begins with NOP, MOVC3 #400,@#200,@#600 and HALT; 41 is the byte that is moved last.
+fn moving(alloc: Global) -> Result<Vec<u8>, Fail> {
+    let mut memory = Vec::new(alloc);
+    memory.extend_from_slice(&[1, 0x28, 0x8F, 0, 4, 0x9F, 0, 2, 0, 0, 0x9F, 0, 6, 0, 0, 0])?;
+    memory.resize(0x5FF, 0x40)?;
+    memory.push(0x41)?;
+    Ok(memory)
+}
+
+/// A machine that goes on where another stands, over these bytes.
+fn again(alloc: Global, first: &Machine, bytes: &[u8]) -> Result<Machine, Fail> {
+    Ok(Machine::again(
+        alloc,
+        pages(alloc, 8, bytes)?,
+        *first.core(),
+        Term::new(Vec::new(alloc)),
+        first.latch().copied(),
+        first.steps(),
+        64,
+    )?)
+}
+
+/// Runs a machine to its end, which has made one step and the first half of the second.
+fn runs_on<R: Abort>(rt: &R, alloc: Global, later: &mut Machine) -> Result<(), Fail> {
+    let mut file = MemPages::new(alloc, 8, 100, Vec::new(alloc))?;
+    let mut sink = MemSink::new(alloc, [100; 3], 100, Vec::new(alloc))?;
+    let end = run_up(later, &Schedule::new(alloc), &mut file, &mut sink);
+    assert!(rt; end == RunEnd::Ended(Ending::Halt));
+    assert!(rt; later.steps() == 3);
+    assert!(rt; later.core().regs[..6] == [0, 0x600, 0, 0xA00, 0, 0]);
+    assert!(rt; later.peek(0x9FF, &mut file)? == Some(0x41));
+    Ok(())
+}
+
 #[test]
 fn goes_on_inside_an_instruction(rt: HostRuntime) -> Result<(), Fail> {
     let alloc = rt.alloc();
-    // NOP, MOVC3 #400,@#200,@#600 and HALT; 41 is the byte that is moved last.
-    let mut memory = Vec::new(alloc);
-    memory.resize(0x600, 0x40)?;
-    memory[0x5FF] = 0x41;
-    let program = [1, 0x28, 0x8F, 0, 4, 0x9F, 0, 2, 0, 0, 0x9F, 0, 6, 0, 0, 0];
-    for (place, byte) in program.iter().enumerate() {
-        memory[place] = *byte;
-    }
     let mut file = MemPages::new(alloc, 8, 100, Vec::new(alloc))?;
-    let mut first = machine(alloc, &memory)?;
+    let mut first = machine(alloc, &moving(alloc)?)?;
     assert!(rt; part(&mut first, &mut file));
     assert!(rt; [first.units(), first.taken()] == [512, 0]);
     let now = memory_of(alloc, &mut first, &mut file)?;
-    let term = Term::new(Vec::new(alloc));
-    let latch = first.latch().copied();
-    let mut later = Machine::again(
-        alloc,
-        space(alloc, &now)?,
-        *first.core(),
-        term,
-        latch,
-        first.steps(),
-        64,
-    )?;
-    assert!(rt; [later.steps(), later.turns()] == [1, 0] && later.units() == 512);
-    let mut again = MemPages::new(alloc, 8, 100, Vec::new(alloc))?;
-    let mut sink = MemSink::new(alloc, [100; 3], 100, Vec::new(alloc))?;
-    let end = run_up(&mut later, &Schedule::new(alloc), &mut again, &mut sink);
-    assert!(rt; end == RunEnd::Ended(Ending::Halt) && later.steps() == 3);
-    assert!(rt; later.core().regs[..6] == [0, 0x600, 0, 0xA00, 0, 0]);
-    assert!(rt; later.peek(0x9FF, &mut again)? == Some(0x41));
-    Ok(())
+    let mut later = again(alloc, &first, &now)?;
+    assert!(rt; later.units() == 512);
+    assert!(rt; [later.steps(), later.turns()] == [1, 0]);
+    runs_on(&rt, alloc, &mut later)
 }

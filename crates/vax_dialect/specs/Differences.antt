@@ -41,7 +41,7 @@ abbrev pub has_negative_repeats : Dialect → Bool
 has_negative_repeats Vax = false
 has_negative_repeats Vms = true
 
--- `.MEXIT`, `.NARG`, `.NCHR` and `.MDELETE` are there ("Macro directives").
+-- `.MEXIT`, `.NARG`, `.NCHR`, `.MDELETE` and `.OPDEF` are there ("Macro directives", ".OPDEF").
 abbrev pub has_macro_directives : Dialect → Bool
 has_macro_directives Vax = false
 has_macro_directives Vms = true

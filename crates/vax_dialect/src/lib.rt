@@ -116,7 +116,7 @@ impl Dialect {
         }
     }
 
-    /// Whether `.MEXIT`, `.NARG`, `.NCHR` and `.MDELETE` are there.
+    /// Whether `.MEXIT`, `.NARG`, `.NCHR`, `.MDELETE` and `.OPDEF` are there.
     pub fn has_macro_directives(self) -> bool
         ensures { result ≡ has_macro_directives self }
     {

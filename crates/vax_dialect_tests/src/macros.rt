@@ -24,7 +24,7 @@ fn fault_of(alloc: Global, dialect: Dialect, source: &str) -> (u32, u8) {
 #[test]
 fn carries_out_the_directives_of_one_dialect(rt: HostRuntime) -> Result<(), Fail> {
     let alloc = rt.alloc();
-    let rows: [(&str, &[u8], (u32, u8)); 15] = [
+    let rows: [(&str, &[u8], (u32, u8)); 17] = [
         (".REPT 1-2\nNOP\n.ENDR\n.BYTE 1\n", b"\x01", (1, 7)),
         // The inner of two expansions is left, with the condition that it opened.
         (
@@ -98,6 +98,17 @@ fn carries_out_the_directives_of_one_dialect(rt: HostRuntime) -> Result<(), Fail
             b"\x03a bc\x03",
             (1, 2),
         ),
+        // The texts of repeats are arguments too.
+        (
+            ".IRPC D,24\n.BYTE D\n.ENDR\n.IRPC D ^/6,8/\n.ASCII `D`\n.ENDR\n.IRP D,^/5,7/\n.BYTE D\n.ENDR\n",
+            b"\x02\x046,8\x05\x07",
+            (1, 4),
+        ),
+        (
+            ".IRP X,<<a;b>,c> ; d\n.NCHR N,<X>\n.BYTE N\n.ENDR\n",
+            b"\x03\x01",
+            (1, 4),
+        ),
     ];
     for (source, bytes, fault) in rows {
         let module = assemble(alloc, Dialect::Vms, source.as_bytes())?;
@@ -126,6 +137,10 @@ fn tells_the_faults_of_macros_in_the_larger_dialect(rt: HostRuntime) {
         (".NCHR N,<A\n", (1, 4)),
         (".NCHR N,^/A\n", (1, 4)),
         (".NCHR N,^/A/B\n", (1, 4)),
+        (".IRPC D\n.ENDR\n", (1, 3)),
+        (".IRPC D,1 2\n.ENDR\n", (1, 3)),
+        (".IRPC 5,1\n.ENDR\n", (1, 4)),
+        (".IRP D,<1\n.ENDR\n", (1, 4)),
         (".MDELETE\n", (1, 3)),
         (".MDELETE 5\n", (1, 4)),
         (".BYTE %LENGTH(A)\n", (1, 4)),

@@ -285,6 +285,81 @@ fn gives_what_one_dialect_has(rt: HostRuntime) -> Result<(), Fail> {
     Ok(())
 }
 
+/// `POPL` lays the bytes D0 and 8E, and its operand behind them.
+#[test]
+fn pops_longwords(rt: HostRuntime) -> Result<(), Fail> {
+    let alloc = rt.alloc();
+    let rows: [(&str, &[u8], (u32, u8)); 17] = [
+        ("POPL R3\n", b"\xD0\x8E\x53", (1, 2)),
+        ("popl 4(R1)\n", b"\xD0\x8E\xA1\x04", (1, 2)),
+        ("POPL @#^X10\n", b"\xD0\x8E\x9F\x10\0\0\0", (1, 2)),
+        (
+            "POPL (R2)+\nPOPL -(SP)\nPOPL (AP)\n",
+            b"\xD0\x8E\x82\xD0\x8E\x7E\xD0\x8E\x6C",
+            (1, 2),
+        ),
+        ("POPL @4(R2)[R3]\n", b"\xD0\x8E\x43\xB2\x04", (1, 2)),
+        // A displacement counts from behind its field: at 5 in the first, at 7 in the others.
+        ("X: NOP\nPOPL X\n", b"\x01\xD0\x8E\xAF\xFB", (2, 2)),
+        ("POPL X\nX: NOP\n", b"\xD0\x8E\xEF\0\0\0\0\x01", (1, 2)),
+        ("X: POPL L^X\n", b"\xD0\x8E\xEF\xF9\xFF\xFF\xFF", (1, 2)),
+        ("X: POPL R0\nBRB X\n", b"\xD0\x8E\x50\x11\xFB", (1, 2)),
+        // `.` is the place of the operand, which stands two bytes behind the statement's.
+        ("A: POPL .-A(R1)\n", b"\xD0\x8E\xA1\x02", (1, 2)),
+        ("POPL X(R4)\nX=300\n", b"\xD0\x8E\xC4\x2C\x01", (1, 2)),
+        (
+            ".ENABLE ABSOLUTE\nPOPL 8\n",
+            b"\xD0\x8E\x9F\x08\0\0\0",
+            (1, 2),
+        ),
+        (".IIF EQ 0, POPL R1\n", b"\xD0\x8E\x51", (1, 2)),
+        ("PUSHL R2\nPOPL R2\n", b"\xDD\x52\xD0\x8E\x52", (2, 2)),
+        (
+            ".MACRO BACK X\nPOPL X\n.ENDM\nBACK R6\n",
+            b"\xD0\x8E\x56",
+            (4, 2),
+        ),
+        // A macro of the name goes before it, and what is defined as a name isn't an operator.
+        (".MACRO POPL X\n.BYTE X\n.ENDM\nPOPL 5\n", b"\x05", (0, 0)),
+        ("POPL=7\n.BYTE POPL\n", b"\x07", (0, 0)),
+    ];
+    for (source, bytes, fault) in rows {
+        let module = assemble(alloc, Dialect::Vms, source.as_bytes())?;
+        assert!(rt; bytes_of(&module) == bytes, "{source}");
+        assert!(rt; fault_of(alloc, Dialect::Vax, source) == fault, "{source}");
+    }
+    Ok(())
+}
+
+#[test]
+fn finds_faults_of_pops(rt: HostRuntime) {
+    let alloc = rt.alloc();
+    let rows = [
+        ("POPL\n", (1, 3)),
+        ("POPL R1,R2\n", (1, 3)),
+        ("POPL #5,R1\n", (1, 3)),
+        ("POPL #5\n", (1, 4)),
+        ("POPL #500\n", (1, 4)),
+        ("POPL #X\nX=1\n", (1, 4)),
+        ("POPL S^#5\n", (1, 4)),
+        ("POPL I^#5\n", (1, 4)),
+        ("POPL R1[R2]\n", (1, 4)),
+        ("POPL +\n", (1, 4)),
+        ("POPL B^300(R1)\n", (1, 7)),
+        ("X: NOP\nX: POPL R0\n", (2, 6)),
+        ("X: NOP\nX: POPL R0,R1\n", (2, 3)),
+        ("POPW R0\n", (1, 2)),
+        (".POPL R0\n", (1, 2)),
+        (".PSECT X,ABS\nPOPL R0\n", (2, 4)),
+        (".PSECT X,OVR\nPOPL R0\n", (2, 4)),
+        (".BLKB 1048574\nPOPL R0\n", (2, 11)),
+        (".BLKB 1048575\nPOPL R0\n", (2, 11)),
+    ];
+    for (source, fault) in rows {
+        assert!(rt; fault_of(alloc, Dialect::Vms, source) == fault, "{source}");
+    }
+}
+
 #[test]
 fn copies_masks_of_entries(rt: HostRuntime) -> Result<(), Fail> {
     let alloc = rt.alloc();
@@ -581,6 +656,56 @@ fn counts_in_absolute_sections(rt: HostRuntime) -> Result<(), Fail> {
     Ok(())
 }
 
+/// `. = e` goes back too in an absolute section. The labels are the places where they stand.
+#[test]
+fn goes_back_in_absolute_sections(rt: HostRuntime) -> Result<(), Fail> {
+    let alloc = rt.alloc();
+    let rows: [(&str, &[u8]); 9] = [
+        (
+            ".PSECT X,ABS\n.=4\nA: .BLKL\nB: .BLKL\n.=0\nC: .BLKB\nD:\n.PSECT\n.BYTE A,B,C,D\n",
+            b"\x04\x08\0\x01",
+        ),
+        (
+            ".PSECT X,ABS\n.BLKB 6\n.=2\nA: .BLKW\n.=9\nB: .BLKB\nC:\n.PSECT\n.BYTE A,B,C\n",
+            b"\x02\x09\x0A",
+        ),
+        (
+            ".PSECT X,ABS\n.BLKB 8\nA:\n.=.-3\nB: .EVEN\nC: .ODD\nD:\n.PSECT\n.BYTE A,B,C,D\n",
+            b"\x08\x05\x06\x07",
+        ),
+        (
+            ".PSECT X,ABS\nA: .BLKQ\n.=A\nB: .BLKB\n.ALIGN LONG\nC:\n.PSECT\n.BYTE A,B,C\n",
+            b"\0\0\x04",
+        ),
+        (
+            ".PSECT X,ABS\n.BLKB 7\n.=7\nA:\n.=6\nB:\n.PSECT\n.BYTE A,B\n",
+            b"\x07\x06",
+        ),
+        (
+            ".PSECT X,ABS\n.BLKB 7\n.=3\n.PSECT\n.BYTE 1\n.PSECT X\nA:\n.PSECT\n.BYTE A\n",
+            b"\x01\x03",
+        ),
+        (
+            ".PSECT X,ABS\n.BLKB 7\n.PSECT Y,ABS\nA: .BLKB 2\n.=1\nB:\n.PSECT X\nC:\n.PSECT\n.BYTE A,B,C\n",
+            b"\0\x01\x07",
+        ),
+        (
+            ".PSECT X,ABS\n.=1048576\nA:\n.=0\nB: .BLKB 1048576\nC:\n.PSECT\n.LONG A,B,C\n",
+            b"\0\0\x10\0\0\0\0\0\0\0\x10\0",
+        ),
+        // What is gone back is no part of the module's length: 20 times the most that a section counts.
+        (
+            ".PSECT X,ABS\n.REPT 20\n.=1048576\n.=0\n.ENDR\nA:\n.PSECT\n.BYTE A\n",
+            b"\0",
+        ),
+    ];
+    for (source, bytes) in rows {
+        let module = assemble(alloc, Dialect::Vms, source.as_bytes())?;
+        assert!(rt; bytes_of(&module) == bytes, "{source}");
+    }
+    Ok(())
+}
+
 /// An absolute section stands in its module without bytes, and is aligned to nothing.
 #[test]
 fn lays_no_absolute_section(rt: HostRuntime) -> Result<(), Fail> {
@@ -725,7 +850,20 @@ fn finds_faults_in_absolute_sections(rt: HostRuntime) {
         (".PSECT X,REL,ABS\n", (1, 4)),
         (".PSECT X\n.PSECT X,ABS\n", (2, 4)),
         (".PSECT X,ABS\n.PSECT X,REL\n", (2, 4)),
-        (".PSECT X,ABS\n.BLKB 2\n.=1\n", (3, 7)),
+        (".PSECT X,ABS\n.=-1\n", (2, 7)),
+        (".PSECT X,ABS\n.BLKB 2\n.=.-3\n", (3, 7)),
+        (".PSECT X,ABS\n.=1048577\n", (2, 11)),
+        (".PSECT X,ABS\n.=1048576\n.=0\n.=1048577\n", (4, 11)),
+        (".PSECT X,ABS\n.=1048576\n.=1\n.BLKB 1048576\n", (4, 11)),
+        (
+            ".PSECT X,ABS\n.BLKB 2\n.PSECT Y\nA: .BLKB 2\n.=A+1\n",
+            (5, 7),
+        ),
+        (
+            ".PSECT X,ABS\n.BLKB 2\n.PSECT Y,OVR\nA: .BLKB 2\n.=A+1\n",
+            (5, 7),
+        ),
+        (".PSECT X,ABS\n.BLKB 2\n.=0\nNOP\n", (4, 4)),
         (".PSECT X,ABS\n.BLKB 1048577\n", (2, 11)),
         ("A: NOP\n.PSECT X,ABS\n.=A\n", (3, 4)),
         (".PSECT X,ABS\nA:\n.PSECT\n.=A\n", (4, 4)),

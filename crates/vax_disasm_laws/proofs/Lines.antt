@@ -1,10 +1,11 @@
 -- A whole line as a statement: what an instruction's text leaves in a section.
 use Rattle.std.proofs.Common.{◌≡◌, ℕ, suc, ◌+◌, ◌-◌, ◌<◌, ◌≤◌, Bool, true, false, List, [], ◌∷◌, ◌++◌, length, map, drop, get_or, Option, Some, None, Result, Ok, Err, refl, ap, ◌∙◌, sym, subst, arith}
-use Rattle.std.specs.Prelude.{option_map, nat_lt, ◌&&◌, ◌==◌, find, All, IfSome, if◌then◌else◌, replicate}
+use Rattle.std.specs.Prelude.{codes, option_map, nat_lt, not, ◌&&◌, ◌||◌, ◌==◌, find, All, IfSome, if◌then◌else◌, replicate}
 use Rattle.std.specs.List.{list_all, list_any, AllPass}
 use Rattle.std.specs.Char.{is_ascii_uppercase, to_ascii_lowercase, to_ascii_uppercase}
-use Rattle.std.specs.Str.{str_eq_ignore_ascii_case, str_to_ascii_lowercase}
+use Rattle.std.specs.Str.{bytes_eq, str_eq_ignore_ascii_case, str_to_ascii_lowercase}
 use Rattle.std.proofs.Math.Seq.{drop-append_seam}
+use Rattle.std.proofs.lemmas.List.Sums.{AllPass-from_list_all}
 use Rattle.std.proofs.lemmas.List.{drop-drop, get_or-drop, get_or_append_left}
 use Rattle.std.proofs.lemmas.Bool.Decides.{nat_tests}
 use Rattle.std.proofs.lemmas.Slice.Eq.{bytes_eq-Decides}
@@ -205,6 +206,23 @@ named_back opcode i e =
     let named : Named i = find_all Named (λ j. j.opcode == opcode) instructions (λ k d h text is. only_name text k d h is) i e in
     named i.name (rw (same_text i.name) refl)
 
+not_true : (b : Bool) → not b ≡ true → b ≡ false
+not_true true h = cc
+not_true false h = refl
+
+-- the name of a pop, in letters of either case
+abbrev is_pop : List ℕ → Bool
+is_pop name = str_eq_ignore_ascii_case (codes "POPL") name
+
+no_pops : AllPass (λ i. not (is_pop i.name)) instructions
+unfolding instructions
+no_pops = AllPass-from_list_all (λ i. not (is_pop i.name)) instructions refl
+
+-- no instruction has it
+found_no_pop : (opcode : ℕ) (i : Instruction) → with_opcode opcode ≡ Some i → is_pop i.name ≡ false
+unfolding with_opcode
+found_no_pop opcode i e = not_true (is_pop i.name) (find_all (λ (j : Instruction). not (is_pop j.name) ≡ true) (λ j. j.opcode == opcode) instructions no_pops i e)
+
 pub found_formed : (opcode : ℕ) (i : Instruction) → with_opcode opcode ≡ Some i → IsFormed (row_of i)
 found_formed opcode i e = subst (λ (w : Option Instruction). IfSome w (λ j. IsFormed (row_of j))) e (formed_with_opcode opcode)
 
@@ -360,23 +378,34 @@ other_name (d ∷ entry) text c h capital =
     let apart : (46 == to_ascii_lowercase c) ≡ false = grind (arith, nat_tests) in
     rw (dot, apart) refl
 
-undirected_in : {X : Type 0} (entries : List (List ℕ × X)) (text : List ℕ) (c : ℕ) → list_all (λ e. dotted e.0) entries ≡ true → is_ascii_uppercase c ≡ true → named_in entries (c ∷ text) ≡ None
-undirected_in {X} [] text c h capital = refl
-undirected_in {X} (entry ∷ entries) text c h capital =
-    let each = both (dotted entry.0) (list_all (λ (e : List ℕ × X). dotted e.0) entries) h in
-    rw (other_name entry.0 text c each.0 capital) (undirected_in entries text c each.1 capital)
+-- it begins with a dot, or is a pop's
+abbrev is_apart : List ℕ → Bool
+is_apart entry = dotted entry || bytes_eq entry (codes "POPL")
+
+apart_name : (entry text : List ℕ) (c : ℕ) (dot pop : Bool) → dotted entry ≡ dot → bytes_eq entry (codes "POPL") ≡ pop → (dot || pop) ≡ true → is_ascii_uppercase c ≡ true → is_pop (c ∷ text) ≡ false
+    → str_eq_ignore_ascii_case entry (c ∷ text) ≡ false
+apart_name entry text c true pop d p h capital other = other_name entry text c d capital
+apart_name entry text c false true d p h capital other =
+    subst (λ (e : List ℕ). str_eq_ignore_ascii_case e (c ∷ text) ≡ false) (sym ((bytes_eq-Decides entry (codes "POPL")).0 p)) other
+apart_name entry text c false false d p h capital other = cc
+
+undirected_in : {X : Type 0} (entries : List (List ℕ × X)) (text : List ℕ) (c : ℕ) → list_all (λ e. is_apart e.0) entries ≡ true → is_ascii_uppercase c ≡ true → is_pop (c ∷ text) ≡ false → named_in entries (c ∷ text) ≡ None
+undirected_in {X} [] text c h capital other = refl
+undirected_in {X} (entry ∷ entries) text c h capital other =
+    let each = both (is_apart entry.0) (list_all (λ (e : List ℕ × X). is_apart e.0) entries) h in
+    rw (apart_name entry.0 text c (dotted entry.0) (bytes_eq entry.0 (codes "POPL")) refl refl each.0 capital other) (undirected_in entries text c each.1 capital other)
 
 -- no directive has the name of an instruction
 no_further : (further : Bool) (name : List ℕ) → named_in further_directives name ≡ None → further_named further name ≡ None
 no_further true name e = e
 no_further false name e = refl
 
-undirected : (dialect : Dialect) (name : List ℕ) → IsName name → directive_named dialect name ≡ None
+undirected : (dialect : Dialect) (name : List ℕ) → IsName name → is_pop name ≡ false → directive_named dialect name ≡ None
 unfolding directive_of
-undirected dialect [] is = absurd (let some = is.some in omega arith)
-undirected dialect (c ∷ text) is =
-    rw (all_ascii (c ∷ text) is.characters, undirected_in directives text c refl is.letter)
-    (no_further (has_further_directives dialect) (c ∷ text) (undirected_in further_directives text c refl is.letter))
+undirected dialect [] is other = absurd (let some = is.some in omega arith)
+undirected dialect (c ∷ text) is other =
+    rw (all_ascii (c ∷ text) is.characters, undirected_in directives text c refl is.letter other)
+    (no_further (has_further_directives dialect) (c ∷ text) (undirected_in further_directives text c refl is.letter other))
 
 instruction_found : (opcode : ℕ) (i : Instruction) → IsName i.name → with_opcode opcode ≡ Some i → instruction_named i.name ≡ Some i
 instruction_found opcode i is w = rw (all_ascii i.name is.characters) (named_back opcode i w)
@@ -426,7 +455,7 @@ line_placed origin addr opcode bytes i q s are w e u =
     let name : Token = token_at 0 (word Name i.name) in
     let tokens : List Token = front_tokens (addr + 1) pos q in
     let text : token_text line name ≡ i.name = text_there line 0 (word Name i.name) (operands_text 32 (addr + 1) q) refl in
-    let none : directive_named s.dialect (token_text line name) ≡ None = ap (directive_named s.dialect) text ∙ undirected s.dialect i.name f.name in
+    let none : directive_named s.dialect (token_text line name) ≡ None = ap (directive_named s.dialect) text ∙ undirected s.dialect i.name f.name (found_no_pop opcode i w) in
     let found : instruction_named (token_text line name) ≡ Some i = ap instruction_named text ∙ instruction_found opcode i f.name w in
     placed_line origin line (name ∷ tokens) (Operation name tokens) s (line_scanned i.name (addr + 1) q operator fit s.dialect) (parsed_operation i.name (addr + 1) pos q) (ap is_listing_by none)
     ∙ body_made origin line name tokens s _ (operated origin line (token_text line name) tokens i s none found

@@ -17,5 +17,6 @@ pub(crate) struct Layout<'a> {
     pub(crate) addresses: Vec<u32>,
     /// The place of each module's first section among the pieces.
     pub(crate) firsts: Vec<usize>,
-    pub ghost placed: { IsPlaced base (sections_in pieces.items) (names_in names.items) pages.items addresses.items },
+    pub ghost placed: { IsPlaced base (sections_in pieces.items) (names_in names.items)
+        pages.items addresses.items },
 }

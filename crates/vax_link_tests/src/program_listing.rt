@@ -69,7 +69,7 @@ NAMES
 ENTRY 00000200
 ";
 
-/// Offsets in an absolute section, which has no bytes.
+/// Offsets in an absolute section, which is at address 0, has counted 13, and has no bytes.
 const OFFSETS: &str = "        .PSECT BLOCK,ABS
 FIRST:  .BLKL 3
 NEXT:   .BLKB
@@ -87,7 +87,7 @@ const OFFSETS_LISTING: &str = "MODULE 1
      6 00000204                                  .END S
 SECTIONS
 00000200      0 WRT   . BLANK .
-00000200      0 WRT   BLOCK
+00000000     13 WRT   BLOCK
 00000200      4 WRT   CODE
 NAMES
 00000000 ABS        FIRST

@@ -3,66 +3,10 @@ use std::alloc::Global;
 use std::process::Abort;
 use std::test::Fail;
 use vax_flat::Ending;
-use vax_machine::{Applied, Event, Limits, Machine, RunEnd};
+use vax_machine::{Applied, Event, Limits, RunEnd};
 use vax_outside::{Chan, MemPages, MemSink};
 use vax_sched::{Schedule, read};
-use vax_space::{Area, Bytes, Space};
-use vax_word::{Core, Psl};
-
-/// So many pages, from page 0 on, which begin with these bytes and which every mode may write.
-fn pages(alloc: Global, count: u32, bytes: &[u8]) -> Result<Space, Fail> {
-    let mut areas = Vec::new(alloc);
-    areas.push(Area {
-        first: 0,
-        pages: count,
-        prot: 4,
-        bytes: Bytes::from(bytes.to_vec(alloc)?),
-    })?;
-    Ok(Space::new(alloc, areas)?)
-}
-
-/// Pages 0 to 7.
-fn space(alloc: Global, bytes: &[u8]) -> Result<Space, Fail> {
-    pages(alloc, 8, bytes)
-}
-
-/// A machine over a space, with registers of 0 in kernel mode and 64 frames.
-fn machine_over(alloc: Global, space: Space) -> Result<Machine, Fail> {
-    let core = Core {
-        regs: [0; 16],
-        psl: Psl(0x001F_0000),
-        stacks: [0; 5],
-        sisr: 0,
-        iccs: 0,
-        clock: 0,
-    };
-    Ok(Machine::new(alloc, space, core, Vec::new(alloc), 64)?)
-}
-
-/// A machine over eight pages.
-fn machine(alloc: Global, bytes: &[u8]) -> Result<Machine, Fail> {
-    machine_over(alloc, space(alloc, bytes)?)
-}
-
-/// MOVL #89ABCDEF,@#400, MOVL @#400,R1 and HALT.
-const PROGRAM: &[u8] = &[
-    0xD0, 0x8F, 0xEF, 0xCD, 0xAB, 0x89, 0x9F, 0, 4, 0, 0, 0xD0, 0x9F, 0, 4, 0, 0, 0x51, 0,
-];
-
-/// Runs for at most 100 steps and 100 attempts.
-fn run_up(
-    machine: &mut Machine,
-    schedule: &Schedule,
-    file: &mut MemPages,
-    sink: &mut MemSink,
-) -> RunEnd {
-    let limits = Limits {
-        steps: 100,
-        turns: 100,
-        listed: true,
-    };
-    machine.run(&limits, schedule, file, sink)
-}
+use vax_test_machines::{MOVES, machine, machine_over, pages, run_up};
 
 /// Runs the program to its end, with so many attempts and so many evictions of pinned pages.
 fn run_program<R: Abort>(
@@ -72,7 +16,7 @@ fn run_program<R: Abort>(
     turns: u64,
     spoiled: u64,
 ) -> Result<(), Fail> {
-    let mut machine = machine(alloc, PROGRAM)?;
+    let mut machine = machine(alloc, &MOVES)?;
     let mut file = MemPages::new(alloc, 8, 100, Vec::new(alloc))?;
     let mut sink = MemSink::new(alloc, [100; 3], 100, Vec::new(alloc))?;
     let end = run_up(&mut machine, schedule, &mut file, &mut sink);
@@ -88,7 +32,7 @@ fn run_program<R: Abort>(
 fn runs_to_an_ending(rt: HostRuntime) -> Result<(), Fail> {
     let alloc = rt.alloc();
     run_program(&rt, alloc, &Schedule::new(alloc), 5, 0)?;
-    let evicting = read(alloc, b"at 3 00000000\n", &space(alloc, &[])?)?;
+    let evicting = read(alloc, b"at 3 00000000\n", &pages(alloc, 8, &[])?)?;
     run_program(&rt, alloc, &evicting, 6, 1)
 }
 
@@ -130,7 +74,7 @@ fn events_one_by_one(rt: HostRuntime) -> Result<(), Fail> {
 #[test]
 fn flushes_behind_each_step(rt: HostRuntime) -> Result<(), Fail> {
     let alloc = rt.alloc();
-    let mut machine = machine(alloc, PROGRAM)?;
+    let mut machine = machine(alloc, &MOVES)?;
     let mut file = MemPages::new(alloc, 8, 100, Vec::new(alloc))?;
     for _ in 0..8 {
         match machine.apply(Event::Attempt, &mut file) {
@@ -156,8 +100,8 @@ fn flushes_behind_each_step(rt: HostRuntime) -> Result<(), Fail> {
 #[test]
 fn spends_turns_on_pinned_pages(rt: HostRuntime) -> Result<(), Fail> {
     let alloc = rt.alloc();
-    let mut machine = machine(alloc, PROGRAM)?;
-    let schedule = read(alloc, b"each 1 all\n", &space(alloc, &[])?)?;
+    let mut machine = machine(alloc, &MOVES)?;
+    let schedule = read(alloc, b"each 1 all\n", &pages(alloc, 8, &[])?)?;
     let mut file = MemPages::new(alloc, 8, 100, Vec::new(alloc))?;
     let mut sink = MemSink::new(alloc, [2000; 3], 100, Vec::new(alloc))?;
     let end = run_up(&mut machine, &schedule, &mut file, &mut sink);
@@ -171,7 +115,7 @@ fn lists_evictions(rt: HostRuntime) -> Result<(), Fail> {
     let alloc = rt.alloc();
     // MOVL #5,R1 and HALT; every page is made absent before the second and the fourth attempt.
     let mut machine = machine(alloc, &[0xD0, 5, 0x51, 0])?;
-    let schedule = read(alloc, b"each 2 all\n", &space(alloc, &[])?)?;
+    let schedule = read(alloc, b"each 2 all\n", &pages(alloc, 8, &[])?)?;
     let mut file = MemPages::new(alloc, 8, 100, Vec::new(alloc))?;
     let mut sink = MemSink::new(alloc, [100; 3], 7, Vec::new(alloc))?;
     let end = run_up(&mut machine, &schedule, &mut file, &mut sink);
@@ -188,7 +132,7 @@ fn evicts_in_the_order_of_pages(rt: HostRuntime) -> Result<(), Fail> {
     // MOVB #1,@#A00, MOVB #1,@#400 and HALT; all pages are made absent before the sixth attempt.
     let program = [0x90, 1, 0x9F, 0, 10, 0, 0, 0x90, 1, 0x9F, 0, 4, 0, 0, 0];
     let mut machine = machine(alloc, &program)?;
-    let schedule = read(alloc, b"each 6 all\n", &space(alloc, &[])?)?;
+    let schedule = read(alloc, b"each 6 all\n", &pages(alloc, 8, &[])?)?;
     let mut file = MemPages::new(alloc, 8, 100, Vec::new(alloc))?;
     let mut sink = MemSink::new(alloc, [100; 3], 100, Vec::new(alloc))?;
     let end = run_up(&mut machine, &schedule, &mut file, &mut sink);

@@ -277,7 +277,7 @@ begin_macro line head at rest =
     else (if is_name (take (name_length text) text) then begin_body (canonical_name (take (name_length text) text)) (macro_formals (drop (name_length text) text)) line rest
     else Fails faults.Form))
 
--- The operands of `.IRP` and `.IRPC`: a formal argument, a comma or blanks, and a text in brackets.
+-- The operands of `.IRP` and `.IRPC`: a formal argument, a comma or blanks, and a text, which stands in brackets.
 abbrev pub listed_end : List ℕ → ℕ → Result (List ℕ) FaultKind
 listed_end text n =
     if length (behind_blanks (drop (n + 1) text)) == 0 then Ok (take n text)
@@ -312,9 +312,24 @@ iterated_at text n =
 abbrev pub iterated_from : List ℕ → Result Iterated FaultKind
 iterated_from text = iterated_at text (prefix_len is_no_separator text)
 
-unfoldable pub iterated_in : List ℕ → List Piece → ℕ → Result Iterated FaultKind
-iterated_in text operands at =
-    if has_unprintable text operands then Err faults.Token else iterated_from (behind_blanks (code_from at operands text))
+-- The operands are a name and a text.
+abbrev pub two_texts : Option (List Argument) → Result Iterated FaultKind
+two_texts None = Err faults.Form
+two_texts (Some (a ∷ b ∷ [])) = Ok (record { name = unwrap_or a.text []; text = unwrap_or b.text [] })
+two_texts (Some _) = Err faults.Count
+
+abbrev pub iterated_two : Result Iterated FaultKind → Result Iterated FaultKind
+iterated_two (Ok i) = iterated (formal_name i.name) (Ok i.text)
+iterated_two (Err kind) = Err kind
+
+-- In the larger language both are arguments as a macro has them, so that the text needs brackets only where it has blanks or commas.
+abbrev pub iterated_by : Bool → List ℕ → List Piece → ℕ → Result Iterated FaultKind
+iterated_by true text operands at = iterated_two (two_texts (arguments true no_keyword (drop at text)))
+iterated_by false text operands at = iterated_from (behind_blanks (code_from at operands text))
+
+unfoldable pub iterated_in : (larger : Bool) → List ℕ → List Piece → ℕ → Result Iterated FaultKind
+iterated_in larger text operands at =
+    if has_unprintable text operands then Err faults.Token else iterated_by larger text operands at
 
 abbrev pub argument_texts : List Argument → List (List ℕ)
 argument_texts arguments = map (λ a. unwrap_or a.text []) arguments
@@ -327,13 +342,13 @@ begin_each name None line rest = Fails faults.Form
 begin_each name (Some arguments) line rest = begin_copies (copy_each name (argument_texts arguments)) line rest
 
 unfoldable pub begin_arguments : Reading → Head → ℕ → Rest → Done
-begin_arguments line head at rest = elim (iterated_in line.text head.operands at) [
+begin_arguments line head at rest = elim (iterated_in (has_argument_forms rest.dialect) line.text head.operands at) [
   | Ok i ↦ begin_each i.name (arguments (has_argument_forms rest.dialect) no_keyword i.text) line rest
   | Err kind ↦ Fails kind
 ]
 
 unfoldable pub begin_characters : Reading → Head → ℕ → Rest → Done
-begin_characters line head at rest = elim (iterated_in line.text head.operands at) [
+begin_characters line head at rest = elim (iterated_in (has_argument_forms rest.dialect) line.text head.operands at) [
   | Ok i ↦ begin_copies (copy_each i.name (character_texts i.text)) line rest
   | Err kind ↦ Fails kind
 ]
@@ -431,12 +446,6 @@ unfoldable pub count_arguments : Reading → List Piece → Head → Rest → Do
 count_arguments line pieces head rest =
     if has_bad pieces then Fails faults.Token
     else counted_in line.text (one_piece head.operands) (record rest { calls = calls_within line.depth rest.calls })
-
--- The operands are a name and a text.
-abbrev pub two_texts : Option (List Argument) → Result Iterated FaultKind
-two_texts None = Err faults.Form
-two_texts (Some (a ∷ b ∷ [])) = Ok (record { name = unwrap_or a.text []; text = unwrap_or b.text [] })
-two_texts (Some _) = Err faults.Count
 
 abbrev pub measured : Result Iterated FaultKind → Rest → Done
 measured (Ok i) rest = assigns i.name (length i.text) rest

@@ -1,18 +1,22 @@
 // What the lines of a source do.
 
-ghost use Rattle.std.specs.Prelude.{◌≡◌, ◌+◌, ◌-◌, ◌<◌, ◌∷◌, [], ◌==◌, length, map, option_map, IfOk};
+ghost use Rattle.std.specs.Prelude.{◌≡◌, ◌+◌, ◌-◌, ◌<◌, ◌∷◌, [], ◌==◌, true, length, map, option_map, IfOk, Ok};
 ghost use Rattle.vax_dialect.specs.Differences.{has_negative_repeats};
-ghost use Rattle.vax_macro.specs.Directives.{operands_from, negative_count, begins, ends, nested_after, listed, is_named, end_fault, body_fault, iterated_in, call, read, operands_fault, expansion, expansions, copies, one_formal, behind_comma, is_parted, macro_formals, argument_texts, character_texts, count_of};
+ghost use Rattle.vax_macro.specs.Directives.{operands_from, negative_count, begins, ends, nested_after, listed, is_named, end_fault, body_fault, formal_name, iterated, iterated_from, iterated_in, iterated_two, two_texts, call, read, operands_fault, expansion, expansions, copies, one_formal, behind_comma, is_parted, macro_formals, argument_texts, character_texts, count_of};
 ghost use Rattle.vax_macro.specs.Heads.{code_from};
-ghost use Rattle.vax_macro.specs.ArgumentViews.{arguments_view, lent_view};
-ghost use Rattle.vax_macro.specs.ConditionViews.{Decides, iterated_view, listed_view};
+ghost use Rattle.vax_macro.specs.ArgumentViews.{arguments_view, lent_arguments, lent_view};
+ghost use Rattle.vax_macro.specs.Arguments.{arguments};
+ghost use Rattle.vax_macro.specs.Conditions.{no_keyword};
+ghost use Rattle.vax_macro.specs.ConditionViews.{Decides, iterated_view, listed_view, pair_view};
 ghost use Rattle.vax_macro.specs.HeadViews.{word_view};
 ghost use Rattle.vax_macro.specs.LineViews.{frame_lines, opened_lines};
 ghost use Rattle.vax_macro.specs.TemplateViews.{template_view, formals_view, texts_view};
 ghost use Rattle.vax_macro.specs.View.{use_view, opening_of};
 
-use crate::arguments::{AnyName, Argument, arguments, bare_length, behind_blanks, closing};
-use crate::conditions::{Refusal, comma_in};
+use crate::arguments::{
+    AnyName, Argument, NoKeyword, arguments, bare_length, behind_blanks, closing,
+};
+use crate::conditions::{Refusal, comma_in, text_of};
 use crate::counts::one_more;
 use crate::error::FaultKind;
 use crate::heads::{Word, code_from, has_bad, has_unprintable, piece_text};
@@ -344,34 +348,76 @@ fn listed(text: &[u8]) -> Result<&[u8], FaultKind>
     }
 }
 
-/// The formal argument of an `.IRP` or `.IRPC`, and the text for it.
-#[tactic(auto, unfolding(crate::specs::Directives::iterated_in))]
-pub(crate) fn iterated_in(
-    alloc: Global,
-    line: &Reading,
-    operands: &[Piece],
-    at: usize,
-) -> Result<(Vec<u8>, Vec<u8>), Refusal>
-    ensures { Decides iterated_view result (iterated_in line.now.text.items operands.now at) }
+/// The texts of two arguments.
+pub(crate) fn two_texts(arguments: Option<&[Argument]>) -> Result<(&[u8], &[u8]), FaultKind>
+    ensures { pair_view result ≡ two_texts (lent_arguments arguments.entry) }
 {
-    if has_unprintable(&line.text, operands) {
-        return Err(Refusal::Fault(FaultKind::Token));
+    match arguments {
+        None => Err(FaultKind::Form),
+        Some([name, text]) => Ok((text_of(name), text_of(text))),
+        Some(_) => Err(FaultKind::Count),
     }
-    let text = behind_blanks(operand_text(line, operands, at));
-    let (name, rest) = text.split_at(bare_length(text));
-    if rest.is_empty() {
-        return Err(Refusal::Fault(FaultKind::Count));
-    }
-    let text_for = match listed(behind_comma(rest)) {
-        Ok(found) => found,
-        Err(kind) => return Err(Refusal::Fault(kind)),
-    };
+}
+
+/// A formal argument with this name, and a text for it.
+fn iterated_of(alloc: Global, name: &[u8], text: &[u8]) -> Result<(Vec<u8>, Vec<u8>), Refusal>
+    ensures { Decides iterated_view result (iterated (formal_name name.now) (Ok text.now)) }
+{
     if !is_name(name) {
         return Err(Refusal::Fault(FaultKind::Form));
     }
     let name = canonical(alloc, name)?;
-    let kept = copied(alloc, text_for)?;
+    let kept = copied(alloc, text)?;
     Ok((name, kept))
+}
+
+/// The formal argument of an `.IRP` or `.IRPC`, and the text for it, both as arguments of a macro.
+fn iterated_by_arguments(alloc: Global, text: &[u8]) -> Result<(Vec<u8>, Vec<u8>), Refusal>
+    ensures { Decides iterated_view result
+        (iterated_two (two_texts (arguments true no_keyword text.now))) }
+{
+    let found = arguments(alloc, true, &NoKeyword, text)?;
+    match two_texts(found.as_deref()) {
+        Ok((name, text)) => iterated_of(alloc, name, text),
+        Err(kind) => Err(Refusal::Fault(kind)),
+    }
+}
+
+/// The same where the text stands in brackets.
+fn iterated_in_brackets(alloc: Global, text: &[u8]) -> Result<(Vec<u8>, Vec<u8>), Refusal>
+    ensures { Decides iterated_view result (iterated_from text.now) }
+{
+    let (name, rest) = text.split_at(bare_length(text));
+    if rest.is_empty() {
+        return Err(Refusal::Fault(FaultKind::Count));
+    }
+    match listed(behind_comma(rest)) {
+        Ok(found) => iterated_of(alloc, name, found),
+        Err(kind) => Err(Refusal::Fault(kind)),
+    }
+}
+
+/// The formal argument of an `.IRP` or `.IRPC`, and the text for it. In the larger language both are arguments as a macro
+/// has them.
+#[tactic(auto, unfolding(crate::specs::Directives::iterated_in))]
+pub(crate) fn iterated_in(
+    alloc: Global,
+    larger: bool,
+    line: &Reading,
+    operands: &[Piece],
+    at: usize,
+) -> Result<(Vec<u8>, Vec<u8>), Refusal>
+    ensures { Decides iterated_view result
+        (iterated_in larger line.now.text.items operands.now at) }
+{
+    if has_unprintable(&line.text, operands) {
+        return Err(Refusal::Fault(FaultKind::Token));
+    }
+    if larger {
+        iterated_by_arguments(alloc, behind(&line.text, at))
+    } else {
+        iterated_in_brackets(alloc, behind_blanks(operand_text(line, operands, at)))
+    }
 }
 
 /// The texts of arguments.

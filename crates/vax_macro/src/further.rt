@@ -2,9 +2,8 @@
 
 ghost use Rattle.std.specs.Prelude.{◌≡◌, None, All, drop, map, IfOk, OnOk};
 ghost use Rattle.vax_lex.specs.Tokens.{IsPieceOf};
-ghost use Rattle.vax_macro.specs.ArgumentViews.{argument_view, lent_arguments};
-ghost use Rattle.vax_macro.specs.ConditionViews.{pair_view};
-ghost use Rattle.vax_macro.specs.Directives.{assignment, assigns, calls_within, conditions_outside, count_arguments, count_characters, define_opcode, delete_all, delete_macros, innermost, leave, one_piece, read_line, two_texts, with_opcode, with_value};
+ghost use Rattle.vax_macro.specs.ArgumentViews.{argument_view};
+ghost use Rattle.vax_macro.specs.Directives.{assignment, assigns, calls_within, conditions_outside, count_arguments, count_characters, define_opcode, delete_all, delete_macros, innermost, leave, one_piece, read_line, with_opcode, with_value};
 ghost use Rattle.vax_macro.specs.Names.{with_entry};
 ghost use Rattle.vax_macro.specs.OpcodeViews.{opcode_view};
 ghost use Rattle.vax_macro.specs.StringViews.{found_view, operator_view};
@@ -13,7 +12,7 @@ ghost use Rattle.vax_macro.specs.View.{Acts, Becomes, Obeys, call_view, conditio
 
 use crate::arguments::{Argument, NoKeyword, arguments};
 use crate::conditions::{Refusal, text_of};
-use crate::directives::{operands_fault, operands_from};
+use crate::directives::{operands_fault, operands_from, two_texts};
 use crate::error::FaultKind;
 use crate::heads::{code_end, has_bad, has_unprintable, piece_text};
 use crate::names::{behind, copied, is_name, part};
@@ -95,17 +94,6 @@ fn remove_macro(macros: &mut BTreeMap<Vec<u8>, Rc<Template>>, name: &[u8])
     ensures { macros_of macros.new ≡ with_entry name.now None (macros_of macros.old) }
 {
     let _ = macros.remove(name);
-}
-
-/// The texts of two arguments.
-fn two_texts(arguments: Option<&[Argument]>) -> Result<(&[u8], &[u8]), FaultKind>
-    ensures { pair_view result ≡ two_texts (lent_arguments arguments.entry) }
-{
-    match arguments {
-        None => Err(FaultKind::Form),
-        Some([name, text]) => Ok((text_of(name), text_of(text))),
-        Some(_) => Err(FaultKind::Count),
-    }
 }
 
 impl State {

@@ -561,14 +561,11 @@ impl State {
         ensures { Obeys parsed.entry (λ p. begin_arguments (line_in p) (head_in p) (operands_at p))
             result self.old self.new }
     {
-        let found = iterated_in(alloc, parsed.line, parsed.operands(), parsed.operands_at());
+        let larger = self.dialect.has_argument_forms();
+        let (line, at) = (parsed.line, parsed.operands_at());
+        let found = iterated_in(alloc, larger, line, parsed.operands(), at);
         match found {
-            Ok((formal, text)) => match arguments(
-                alloc,
-                self.dialect.has_argument_forms(),
-                &NoKeyword,
-                &text,
-            )? {
+            Ok((formal, text)) => match arguments(alloc, larger, &NoKeyword, &text)? {
                 Some(found) => {
                     let texts = argument_texts(alloc, found)?;
                     Ok(self.begin_copies(alloc, Use::Each { formal, texts }, parsed))
@@ -585,7 +582,9 @@ impl State {
         ensures { Obeys parsed.entry (λ p. begin_characters (line_in p) (head_in p) (operands_at p))
             result self.old self.new }
     {
-        let found = iterated_in(alloc, parsed.line, parsed.operands(), parsed.operands_at());
+        let larger = self.dialect.has_argument_forms();
+        let (line, at) = (parsed.line, parsed.operands_at());
+        let found = iterated_in(alloc, larger, line, parsed.operands(), at);
         match found {
             Ok((formal, text)) => {
                 let texts = character_texts(alloc, &text)?;

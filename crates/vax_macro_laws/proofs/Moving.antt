@@ -163,12 +163,12 @@ each_leaves name (Some arguments) line rest = copies_leave (copy_each name (argu
 begin_arguments_leaves : (line : Reading) (head : Head) (at : ℕ) (rest : Rest) → Leaves line.labelled rest (begin_arguments line head at rest)
 unfolding begin_arguments
 begin_arguments_leaves line head at rest =
-    result_leaves line.labelled rest (iterated_in line.text head.operands at) (λ i. begin_each i.name (arguments (has_argument_forms rest.dialect) no_keyword i.text) line rest) (λ i. each_leaves i.name (arguments (has_argument_forms rest.dialect) no_keyword i.text) line rest)
+    result_leaves line.labelled rest (iterated_in (has_argument_forms rest.dialect) line.text head.operands at) (λ i. begin_each i.name (arguments (has_argument_forms rest.dialect) no_keyword i.text) line rest) (λ i. each_leaves i.name (arguments (has_argument_forms rest.dialect) no_keyword i.text) line rest)
 
 begin_characters_leaves : (line : Reading) (head : Head) (at : ℕ) (rest : Rest) → Leaves line.labelled rest (begin_characters line head at rest)
 unfolding begin_characters
 begin_characters_leaves line head at rest =
-    result_leaves line.labelled rest (iterated_in line.text head.operands at) (λ i. begin_copies (copy_each i.name (character_texts i.text)) line rest) (λ i. copies_leave (copy_each i.name (character_texts i.text)) line rest)
+    result_leaves line.labelled rest (iterated_in (has_argument_forms rest.dialect) line.text head.operands at) (λ i. begin_copies (copy_each i.name (character_texts i.text)) line rest) (λ i. copies_leave (copy_each i.name (character_texts i.text)) line rest)
 
 open_call_leaves : (t : Template) (arguments : ℕ) (f : Filled) (line : Reading) (rest : Rest) → Leaves line.labelled rest (open_call t arguments f line rest)
 open_call_leaves t arguments f line rest =

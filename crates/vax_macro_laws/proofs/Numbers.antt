@@ -202,12 +202,12 @@ begin_each_of m name (Some arguments) line rest h k = begin_copies_of m (copy_ea
 begin_arguments_of : (m : ℕ) (line : Reading) (head : Head) (at : ℕ) (rest : Rest) → IsLine m line.number → IsOfLines m rest → DoneOf m (begin_arguments line head at rest)
 unfolding begin_arguments
 begin_arguments_of m line head at rest h k =
-    result_of m (iterated_in line.text head.operands at) (λ i. begin_each i.name (arguments (has_argument_forms rest.dialect) no_keyword i.text) line rest) (λ i. begin_each_of m i.name (arguments (has_argument_forms rest.dialect) no_keyword i.text) line rest h k)
+    result_of m (iterated_in (has_argument_forms rest.dialect) line.text head.operands at) (λ i. begin_each i.name (arguments (has_argument_forms rest.dialect) no_keyword i.text) line rest) (λ i. begin_each_of m i.name (arguments (has_argument_forms rest.dialect) no_keyword i.text) line rest h k)
 
 begin_characters_of : (m : ℕ) (line : Reading) (head : Head) (at : ℕ) (rest : Rest) → IsLine m line.number → IsOfLines m rest → DoneOf m (begin_characters line head at rest)
 unfolding begin_characters
 begin_characters_of m line head at rest h k =
-    result_of m (iterated_in line.text head.operands at) (λ i. begin_copies (copy_each i.name (character_texts i.text)) line rest) (λ i. begin_copies_of m (copy_each i.name (character_texts i.text)) line rest h k)
+    result_of m (iterated_in (has_argument_forms rest.dialect) line.text head.operands at) (λ i. begin_copies (copy_each i.name (character_texts i.text)) line rest) (λ i. begin_copies_of m (copy_each i.name (character_texts i.text)) line rest h k)
 
 -- ---- calls
 

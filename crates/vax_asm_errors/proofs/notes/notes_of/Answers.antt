@@ -1,9 +1,7 @@
-use Rattle.std.proofs.Common.{◌≡◌, ◌++◌, ◌∷◌, List, [], All, rules, subst, sym, ap, map, length, ◌∙◌, arith}
+use Rattle.std.proofs.Common.{◌≡◌, ◌++◌, ◌∷◌, List, [], All, rules, subst, sym, ap, length, ◌∙◌, arith}
 use Rattle.std.proofs.lemmas.List.Elements.{All-append, All-cons, All-nil}
-use Rattle.std.specs.Vec.Iter.{into_iter_items, into_iter_len}
+use Rattle.std.specs.Vec.Iter.{into_iter_items}
 use Rattle.vax_asm_check.specs.Messages.{messages}
-use Rattle.vax_asm_check.specs.View.{message_seen}
-use Rattle.vax_asm_check.specs.declared.notes.Message.{Message}
 use Rattle.vax_asm_errors.proofs.Noting.{all_noted, none_left, one_noted}
 use Rattle.vax_asm_errors.specs.Errors.{IsPlain}
 use Rattle.vax_asm_errors.specs.declared.notes.Noted.{Noted}
