@@ -104,108 +104,55 @@ fn labels_that_nothing_uses_are_told(rt: HostRuntime) -> Result<(), Fail> {
 
 #[test]
 fn labels_that_expansions_may_use_are_not_told(rt: HostRuntime) -> Result<(), Fail> {
-    let rows = [
+    let rows: [(&str, &str); 13] = [
         // the name is joined of a front and an end that stand
-        Row {
-            source: "F_A: HALT\n .IRP N,<A>\n BRB F_'N\n .ENDR\n",
-            bare: false,
-            unused: true,
-            name: "",
-            told: "",
-        },
-        Row {
-            source: "f_a: HALT\n .irp n,<A>\n BRB F_'N\n .ENDR\n",
-            bare: false,
-            unused: true,
-            name: "",
-            told: "",
-        },
+        ("F_A: HALT\n .IRP N,<A>\n BRB F_'N\n .ENDR\n", ""),
+        ("f_a: HALT\n .irp n,<A>\n BRB F_'N\n .ENDR\n", ""),
         // a digit, which is no name
-        Row {
-            source: "F_1: HALT\n .IRP N,<1>\n BRB F_'N\n .ENDR\n",
-            bare: false,
-            unused: true,
-            name: "",
-            told: "",
-        },
+        ("F_1: HALT\n .IRP N,<1>\n BRB F_'N\n .ENDR\n", ""),
         // of arguments alone
-        Row {
-            source: "AB: HALT\n .MACRO M X,Y\n BRB X'Y\n .ENDM\n M A,B\n",
-            bare: false,
-            unused: true,
-            name: "",
-            told: "",
-        },
+        ("AB: HALT\n .MACRO M X,Y\n BRB X'Y\n .ENDM\n M A,B\n", ""),
         // within a name the line is continued
-        Row {
-            source: "F_A: HALT\n BRB F_- ; on\nA\n",
-            bare: false,
-            unused: true,
-            name: "",
-            told: "",
-        },
+        ("F_A: HALT\n BRB F_- ; on\nA\n", ""),
         // no such end, and no such front
-        Row {
-            source: "F_B: HALT\n .IRP N,<A>\n BRB F_'N\n .ENDR\n",
-            bare: false,
-            unused: true,
-            name: "",
-            told: "a.mar:1:1: warning: nothing uses the label `F_B`\nF_B: HALT\n^\n",
-        },
-        Row {
-            source: "G_A: HALT\n .IRP N,<A>\n BRB F_'N\n .ENDR\n",
-            bare: false,
-            unused: true,
-            name: "",
-            told: "a.mar:1:1: warning: nothing uses the label `G_A`\nG_A: HALT\n^\n",
-        },
+        (
+            "F_B: HALT\n .IRP N,<A>\n BRB F_'N\n .ENDR\n",
+            "a.mar:1:1: warning: nothing uses the label `F_B`\nF_B: HALT\n^\n",
+        ),
+        (
+            "G_A: HALT\n .IRP N,<A>\n BRB F_'N\n .ENDR\n",
+            "a.mar:1:1: warning: nothing uses the label `G_A`\nG_A: HALT\n^\n",
+        ),
         // nothing joins: an apostrophe in a comment and in a text, and a difference
-        Row {
-            source: "F_A: HALT ; F_'A\nF_: .ASCII 'A'\n BRB F_\n BRB A\n",
-            bare: false,
-            unused: true,
-            name: "",
-            told: "a.mar:1:1: warning: nothing uses the label `F_A`\nF_A: HALT ; F_'A\n^\n",
-        },
-        Row {
-            source: "F_A: HALT\nF_: HALT\nA: .LONG F_-A\n",
-            bare: false,
-            unused: true,
-            name: "",
-            told: "a.mar:1:1: warning: nothing uses the label `F_A`\nF_A: HALT\n^\n",
-        },
+        (
+            "F_A: HALT ; F_'A\nF_: .ASCII 'A'\n BRB F_\n BRB A\n",
+            "a.mar:1:1: warning: nothing uses the label `F_A`\nF_A: HALT ; F_'A\n^\n",
+        ),
+        (
+            "F_A: HALT\nF_: HALT\nA: .LONG F_-A\n",
+            "a.mar:1:1: warning: nothing uses the label `F_A`\nF_A: HALT\n^\n",
+        ),
         // characters of a text
-        Row {
-            source: "A: HALT\n .IRPC C,<AB>\n BRB C\n .ENDR\n",
-            bare: false,
-            unused: true,
-            name: "",
-            told: "",
-        },
-        Row {
-            source: "AB: HALT\n .MACRO M X\n BRB %EXTRACT(0,2,<X>)\n .ENDM\n M ABC\n",
-            bare: false,
-            unused: true,
-            name: "",
-            told: "",
-        },
+        ("A: HALT\n .IRPC C,<AB>\n BRB C\n .ENDR\n", ""),
+        (
+            "AB: HALT\n .MACRO M X\n BRB %EXTRACT(0,2,<X>)\n .ENDM\n M ABC\n",
+            "",
+        ),
         // an argument before a `^`, and a letter
-        Row {
-            source: "AB: HALT\n .MACRO M P\n TSTL P^AB\n .ENDM\n M L\n",
-            bare: false,
-            unused: true,
-            name: "",
-            told: "",
-        },
-        Row {
-            source: "AB: HALT\n TSTL l^B\nB: HALT\n",
-            bare: false,
-            unused: true,
-            name: "",
-            told: "a.mar:1:1: warning: nothing uses the label `AB`\nAB: HALT\n^\n",
-        },
+        ("AB: HALT\n .MACRO M P\n TSTL P^AB\n .ENDM\n M L\n", ""),
+        (
+            "AB: HALT\n TSTL l^B\nB: HALT\n",
+            "a.mar:1:1: warning: nothing uses the label `AB`\nAB: HALT\n^\n",
+        ),
     ];
-    for row in rows {
+    for (source, told) in rows {
+        let row = Row {
+            source,
+            bare: false,
+            unused: true,
+            name: "",
+            told,
+        };
         assert!(rt; tells_in(&rt, Dialect::Vms, row)?);
     }
     Ok(())

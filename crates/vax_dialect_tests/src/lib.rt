@@ -4,4 +4,8 @@
 #[cfg(test)]
 mod macros;
 #[cfg(test)]
+mod rows;
+#[cfg(test)]
+mod sections;
+#[cfg(test)]
 mod sources;

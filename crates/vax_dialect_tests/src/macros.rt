@@ -1,25 +1,7 @@
 //! Macros, repeats and their directives in each dialect. Expected bytes are worked by the manual.
-use std::alloc::Global;
+use crate::rows::{are_faulty, differ};
 use std::test::Fail;
-use vax_asm::{AsmError, assemble};
 use vax_dialect::Dialect;
-use vax_module::Module;
-
-/// The bytes of the section without a name.
-fn bytes_of(module: &Module) -> &[u8] {
-    match module.sections.as_slice().first() {
-        Some(found) => found.bytes.as_slice(),
-        None => &[],
-    }
-}
-
-/// The line and the kind of the first fault, by its number; zeros where there is none.
-fn fault_of(alloc: Global, dialect: Dialect, source: &str) -> (u32, u8) {
-    match assemble(alloc, dialect, source.as_bytes()) {
-        Err(AsmError::Fault { line, kind }) => (line, kind.code()),
-        _ => (0, 0),
-    }
-}
 
 #[test]
 fn carries_out_the_directives_of_one_dialect(rt: HostRuntime) -> Result<(), Fail> {
@@ -110,12 +92,7 @@ fn carries_out_the_directives_of_one_dialect(rt: HostRuntime) -> Result<(), Fail
             (1, 4),
         ),
     ];
-    for (source, bytes, fault) in rows {
-        let module = assemble(alloc, Dialect::Vms, source.as_bytes())?;
-        assert!(rt; bytes_of(&module) == bytes, "{source}");
-        assert!(rt; fault_of(alloc, Dialect::Vax, source) == fault, "{source}");
-    }
-    Ok(())
+    differ(&rt, alloc, &rows)
 }
 
 #[test]
@@ -151,9 +128,7 @@ fn tells_the_faults_of_macros_in_the_larger_dialect(rt: HostRuntime) {
         (".MACRO M A\n.ENDM\nM \\X\n", (3, 5)),
         (".MACRO M A\n.ENDM\nM \\\n", (3, 3)),
     ];
-    for (source, fault) in rows {
-        assert!(rt; fault_of(alloc, Dialect::Vms, source) == fault, "{source}");
-    }
+    are_faulty(&rt, alloc, Dialect::Vms, &rows);
 }
 
 #[test]
@@ -215,12 +190,7 @@ fn defines_opcodes_in_the_larger_dialect(rt: HostRuntime) -> Result<(), Fail> {
             (1, 2),
         ),
     ];
-    for (source, bytes, fault) in rows {
-        let module = assemble(alloc, Dialect::Vms, source.as_bytes())?;
-        assert!(rt; bytes_of(&module) == bytes, "{source}");
-        assert!(rt; fault_of(alloc, Dialect::Vax, source) == fault, "{source}");
-    }
-    Ok(())
+    differ(&rt, alloc, &rows)
 }
 
 #[test]
@@ -259,7 +229,5 @@ fn tells_the_faults_of_opcodes(rt: HostRuntime) {
         (".OPDEF X 1,BB\nX A\n.BLKB 127\nA: NOP\n", (0, 0)),
         (".OPDEF X 1,BB\nX A\n.BLKB 128\nA: NOP\n", (2, 7)),
     ];
-    for (source, fault) in rows {
-        assert!(rt; fault_of(alloc, Dialect::Vms, source) == fault, "{source}");
-    }
+    are_faulty(&rt, alloc, Dialect::Vms, &rows);
 }
