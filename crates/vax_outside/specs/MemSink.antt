@@ -7,7 +7,8 @@ use Rattle.vax_outside.specs.Faults.{raised}
 use Rattle.vax_outside.specs.declared.fails.Fail.{Fail}
 use Rattle.vax_outside.specs.declared.faults.Failures.{Failures}
 use Rattle.vax_outside.specs.declared.traits.Chan.{Chan}
-use Rattle.vax_outside.specs.declared.traits.Chan.TheVariants.{Out, Report, Record}
+use Rattle.vax_outside.specs.declared.traits.Chan.TheVariants.{Out, Report, Record, State}
+use Rattle.vax_outside.specs.declared.traits.StateFile.{StateFile}
 use Rattle.vax_outside.specs.declared.mem_sink.MemSink.{MemSink}
 
 -- the room of each channel, the most bytes that one write takes, and the calls that are to fail
@@ -15,6 +16,7 @@ pub record Limits : Type 0 where
   pub out : ℕ
   pub report : ℕ
   pub recorded : ℕ
+  pub state : ℕ
   pub most : ℕ
   pub fails : List Fail
 
@@ -22,16 +24,21 @@ abbrev pub room : Limits → Chan → ℕ
 room limits Out = limits.out
 room limits Report = limits.report
 room limits Record = limits.recorded
+room limits State = limits.state
 
 abbrev pub limits_of : MemSink → Limits
-limits_of m = record { out = m.out.room; report = m.report.room; recorded = m.recorded.room; most = m.most; fails = m.fails.items }
+limits_of m = record { out = m.out.room; report = m.report.room; recorded = m.recorded.room; state = m.state.room; most = m.most; fails = m.fails.items }
 
--- of three rooms in the order of the channels
+-- of three rooms: those of Out and of Report, and one that Record and State each have
 abbrev pub limits_from : List ℕ → ℕ → List Fail → Limits
-limits_from room most fails = record { out = slice_index room 0; report = slice_index room 1; recorded = slice_index room 2; most = most; fails = fails }
+limits_from room most fails = record { out = slice_index room 0; report = slice_index room 1; recorded = slice_index room 2; state = slice_index room 2; most = most; fails = fails }
 
 abbrev pub channels_of : MemSink → Channels
-channels_of m = record { out = m.out.bytes.items; report = m.report.bytes.items; recorded = m.recorded.bytes.items }
+channels_of m = record { out = m.out.bytes.items; report = m.report.bytes.items; recorded = m.recorded.bytes.items; saved = record { bytes = m.state.bytes.items; file = m.file } }
+
+-- the state's file came to be this
+abbrev pub changed : Channels → StateFile → Channels
+changed written file = record written { saved = record { bytes = written.saved.bytes; file = file } }
 
 -- the number of calls so far
 abbrev pub calls_of : MemSink → ℕ
@@ -49,6 +56,10 @@ room_left m chan = room (limits_of m) chan - length (bytes_on (channels_of m) ch
 abbrev pub taken : MemSink → Chan → ℕ → ℕ
 taken m chan count = min (min (limits_of m).most count) (room_left m chan)
 
+-- the next call is to fail, whichever it is
+abbrev pub next_named : MemSink → Bool
+next_named m = list_any (names_write (raised m.calls) (raised m.calls)) m.fails.items
+
 -- a write to this channel is to fail
 abbrev pub next_fails : MemSink → Chan → Bool
-next_fails m chan = list_any (names_write (raised m.calls) (raised m.calls)) m.fails.items || room_left m chan == 0
+next_fails m chan = next_named m || room_left m chan == 0

@@ -1,4 +1,5 @@
-//! What the program asks of the outside: files by name, three output channels, and a file of numbered blocks.
+//! What the program asks of the outside: files by name, output channels, a saved state's file, and a file of numbered
+//! blocks.
 //!
 //! Each is a trait with two meanings that contracts see. `contents` is what the object holds, where it tells that;
 //! an object that tells nothing answers None. `faults` counts the calls that failed: a call that answers a failure
@@ -9,6 +10,7 @@
 mod fails;
 mod faults;
 mod host;
+mod limit;
 mod mem_files;
 mod mem_pages;
 mod mem_sink;
@@ -23,4 +25,4 @@ pub use mem_pages::MemPages;
 pub use mem_sink::MemSink;
 pub use put::put_all;
 pub use text::Text;
-pub use traits::{Chan, Failed, Files, FilesFault, PageFile, Sink};
+pub use traits::{Chan, Failed, Files, FilesFault, PageFile, Sink, StateFile};

@@ -1,11 +1,11 @@
 //! Output channels in memory.
-ghost use Rattle.std.specs.Prelude.{◌≡◌, ◌-◌, ◌<◌, ◌≤◌, ◌++◌, [], length, take, min, is_err, vec_capacity, IfOk, OnErr, Some};
-ghost use Rattle.vax_outside.specs.Channels.{Grew, bytes_on, nothing, only};
+ghost use Rattle.std.specs.Prelude.{◌≡◌, ◌-◌, ◌<◌, ◌≤◌, ◌++◌, [], length, take, min, is_err, vec_capacity, IfOk, OnErr, OnOk, Some};
+ghost use Rattle.vax_outside.specs.Channels.{Grew, bytes_on, nothing, only, only_file};
 ghost use Rattle.vax_outside.specs.Faults.{CountsFailure, no_failures, raised};
 
 use crate::fails::is_write_named;
 use crate::faults::{Failures, raised};
-use crate::{Chan, Fail, Failed, Sink};
+use crate::{Chan, Fail, Failed, Sink, StateFile};
 use std::alloc::Global;
 use vax_space::NoMemory;
 
@@ -50,6 +50,8 @@ pub struct MemSink {
     out: Channel,
     report: Channel,
     recorded: Channel,
+    state: Channel,
+    file: StateFile,
     most: u32,
     fails: Vec<Fail>,
     calls: u64,
@@ -58,10 +60,11 @@ pub struct MemSink {
 }
 
 impl MemSink {
-    ghost use Rattle.vax_outside.specs.MemSink.{channels_of, limits_from, limits_of, calls_of, faults_of, taken};
+    ghost use Rattle.vax_outside.specs.MemSink.{changed, channels_of, limits_from, limits_of, calls_of, faults_of, next_named, taken};
 
-    /// Empty channels with room for so many bytes of Out, Report and Record. A write takes at most `most` bytes. It
-    /// fails exactly where `fails` names it or its channel's room is used up.
+    /// Empty channels with room for so many bytes of Out, of Report, and of Record and State each. A write takes at
+    /// most `most` bytes. It fails exactly if `fails` names it or its channel's room is used up, and another call
+    /// exactly if `fails` names it.
     pub fn new(
         alloc: Global,
         room: [u32; 3],
@@ -77,10 +80,13 @@ impl MemSink {
         let out = Channel::new(alloc, room[0])?;
         let report = Channel::new(alloc, room[1])?;
         let recorded = Channel::new(alloc, room[2])?;
+        let state = Channel::new(alloc, room[2])?;
         Ok(MemSink {
             out,
             report,
             recorded,
+            state,
+            file: StateFile::Untouched,
             most,
             fails,
             calls: 0,
@@ -96,7 +102,46 @@ impl MemSink {
             Chan::Out => &self.out.bytes,
             Chan::Report => &self.report.bytes,
             Chan::Record => &self.recorded.bytes,
+            Chan::State => &self.state.bytes,
         }
+    }
+
+    /// What became of the state's file.
+    pub fn state_file(&self) -> StateFile
+        ensures { result ≡ (channels_of self.now).saved.file }
+    {
+        self.file
+    }
+
+    /// Counts a call, and answers whether `fails` names it.
+    fn is_named(&mut self) -> bool
+        ensures named { result ≡ next_named self.old }
+        ensures calls { calls_of self.new ≡ raised (calls_of self.old) }
+        ensures channels { channels_of self.new ≡ channels_of self.old }
+        ensures limits { limits_of self.new ≡ limits_of self.old }
+        ensures faults { faults_of self.new ≡ faults_of self.old }
+    {
+        self.calls = raised(self.calls);
+        is_write_named(&self.fails, self.calls, self.calls)
+    }
+
+    /// A call that changes the state's file.
+    fn change(&mut self, file: StateFile) -> Result<(), Failed>
+        ensures failed { is_err result ≡ next_named self.old }
+        ensures ok { OnOk result (channels_of self.new ≡ changed (channels_of self.old) file) }
+        ensures err { OnErr result (channels_of self.new ≡ channels_of self.old) }
+        ensures counts { CountsFailure (is_err result) (faults_of self.old) (faults_of self.new) }
+        ensures last { (faults_of self.new).last ≡ is_err result }
+        ensures limits { limits_of self.new ≡ limits_of self.old }
+        ensures calls { calls_of self.new ≡ raised (calls_of self.old) }
+    {
+        let named = self.is_named();
+        self.faults.note(named);
+        if named {
+            return Err(Failed);
+        }
+        self.file = file;
+        Ok(())
     }
 
     fn append(&mut self, chan: Chan, bytes: &[u8]) -> usize
@@ -111,12 +156,13 @@ impl MemSink {
             Chan::Out => self.out.append(bytes, self.most),
             Chan::Report => self.report.append(bytes, self.most),
             Chan::Record => self.recorded.append(bytes, self.most),
+            Chan::State => self.state.append(bytes, self.most),
         }
     }
 }
 
 impl Sink for MemSink {
-    ghost use Rattle.vax_outside.specs.MemSink.{channels_of, limits_of, calls_of, faults_of, taken, next_fails};
+    ghost use Rattle.vax_outside.specs.MemSink.{channels_of, limits_of, calls_of, faults_of, taken, next_fails, next_named};
 
     ghost contents = { λ m. Some (channels_of m) };
 
@@ -136,8 +182,7 @@ impl Sink for MemSink {
         ensures limits { limits_of self.new ≡ limits_of self.old }
         ensures calls { calls_of self.new ≡ raised (calls_of self.old) }
     {
-        self.calls = raised(self.calls);
-        if is_write_named(&self.fails, self.calls, self.calls) {
+        if self.is_named() {
             self.faults.note(true);
             return Err(Failed);
         }
@@ -148,5 +193,31 @@ impl Sink for MemSink {
         }
         self.faults.note(false);
         Ok(count)
+    }
+
+    fn keep_state(&mut self) -> Result<(), Failed>
+        ensures ok { OnOk result (Grew (Some (channels_of self.old))
+            (Some (channels_of self.new)) (only_file StateFile.Kept)) }
+        ensures err { OnErr result (Some (channels_of self.new) ≡ Some (channels_of self.old)) }
+        ensures counts { CountsFailure (is_err result) (faults_of self.old) (faults_of self.new) }
+        ensures last { (faults_of self.new).last ≡ is_err result }
+        ensures failed { is_err result ≡ next_named self.old }
+        ensures limits { limits_of self.new ≡ limits_of self.old }
+        ensures calls { calls_of self.new ≡ raised (calls_of self.old) }
+    {
+        self.change(StateFile::Kept)
+    }
+
+    fn remove_state(&mut self) -> Result<(), Failed>
+        ensures ok { OnOk result (Grew (Some (channels_of self.old))
+            (Some (channels_of self.new)) (only_file StateFile.Removed)) }
+        ensures err { OnErr result (Some (channels_of self.new) ≡ Some (channels_of self.old)) }
+        ensures counts { CountsFailure (is_err result) (faults_of self.old) (faults_of self.new) }
+        ensures last { (faults_of self.new).last ≡ is_err result }
+        ensures failed { is_err result ≡ next_named self.old }
+        ensures limits { limits_of self.new ≡ limits_of self.old }
+        ensures calls { calls_of self.new ≡ raised (calls_of self.old) }
+    {
+        self.change(StateFile::Removed)
     }
 }

@@ -1,7 +1,7 @@
 //! The traits of the outside, and what their calls answer.
 ghost use Rattle.std.specs.Prelude.{is_err, ◌≡◌, ◌<◌, ◌≤◌, length, take, IfOk, OnErr, OnOk, Option};
 ghost use Rattle.vax_outside.specs.Blocks.{BlockFile, GivesBlock, CountsRead, PutsBlock};
-ghost use Rattle.vax_outside.specs.Channels.{Channels, Grew, only};
+ghost use Rattle.vax_outside.specs.Channels.{Channels, Grew, only, only_file};
 ghost use Rattle.vax_outside.specs.Directory.{Directory, AnswersRead, is_failed};
 ghost use Rattle.vax_outside.specs.Faults.{CountsFailure};
 ghost use Rattle.vax_outside.specs.declared.faults.Failures.{Failures};
@@ -48,12 +48,24 @@ pub trait Files {
         ensures last { (faults self.new).last ≡ is_failed result };
 }
 
-/// The output channels: the guest's output, the report, and the record of evicted pages.
+/// The output channels: the guest's output, the report, the record of a run, and a saved state on its way to its file.
 #[derive(Clone, Copy, PartialEq, Eq)]
 pub enum Chan {
     Out,
     Report,
     Record,
+    State,
+}
+
+/// What became of the file that a saved state is kept in.
+#[derive(Clone, Copy, PartialEq, Eq)]
+pub enum StateFile {
+    /// The file of that name is what it was, or there is none.
+    Untouched,
+    /// There is no file of that name.
+    Removed,
+    /// It holds the state that was written.
+    Kept,
 }
 
 /// Output channels.
@@ -72,6 +84,23 @@ pub trait Sink {
         ensures bound { IfOk result (λ n. n ≤ length bytes.now) }
         ensures ok { IfOk result
             (λ n. Grew (contents self.old) (contents self.new) (only chan (take n bytes.now))) }
+        ensures err { OnErr result (contents self.new ≡ contents self.old) }
+        ensures counts { CountsFailure (is_err result) (faults self.old) (faults self.new) }
+        ensures last { (faults self.new).last ≡ is_err result };
+
+    /// Ends a saved state: what was written to State becomes the state's file, in place of an older one. After a
+    /// failure the older file is what it was.
+    fn keep_state(&mut self) -> Result<(), Failed>
+        ensures ok { OnOk result
+            (Grew (contents self.old) (contents self.new) (only_file StateFile.Kept)) }
+        ensures err { OnErr result (contents self.new ≡ contents self.old) }
+        ensures counts { CountsFailure (is_err result) (faults self.old) (faults self.new) }
+        ensures last { (faults self.new).last ≡ is_err result };
+
+    /// Removes an older state's file, if there is one.
+    fn remove_state(&mut self) -> Result<(), Failed>
+        ensures ok { OnOk result
+            (Grew (contents self.old) (contents self.new) (only_file StateFile.Removed)) }
         ensures err { OnErr result (contents self.new ≡ contents self.old) }
         ensures counts { CountsFailure (is_err result) (faults self.old) (faults self.new) }
         ensures last { (faults self.new).last ≡ is_err result };
