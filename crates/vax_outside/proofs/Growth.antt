@@ -8,45 +8,56 @@ use Rattle.std.proofs.lemmas.Grind.{flat_map-append}
 use Rattle.vax_outside.specs.declared.traits.Chan.{Chan}
 use Rattle.vax_outside.specs.declared.traits.Chan.TheVariants.{Out, Report, Record, State}
 use Rattle.vax_outside.specs.declared.traits.StateFile.{StateFile}
-use Rattle.vax_outside.specs.declared.traits.StateFile.TheVariants.{Untouched, Removed, Kept}
-use Rattle.vax_outside.specs.Channels.{Channels, Saving, nothing, unsaved, only, only_file, append, append_saving, later_change, Grew, GrewByPrefix}
+use Rattle.vax_outside.specs.declared.traits.StateFile.TheVariants.{Untouched, Removed, Kept, Several}
+use Rattle.vax_outside.specs.Channels.{Channels, Saving, nothing, unsaved, only, append, append_saving, then_change, Grew, GrewByPrefix}
 
-later_untouched : (file : StateFile) → later_change file Untouched ≡ file
-later_untouched Untouched = refl
-later_untouched Removed = refl
-later_untouched Kept = refl
+then_untouched : (file : StateFile) → then_change file Untouched ≡ file
+then_untouched Untouched = refl
+then_untouched Removed = refl
+then_untouched Kept = refl
+then_untouched Several = refl
 
-later_assoc : (a b c : StateFile) → later_change (later_change a b) c ≡ later_change a (later_change b c)
-later_assoc Untouched b c = refl
-later_assoc Removed Untouched c = refl
-later_assoc Removed Removed Untouched = refl
-later_assoc Removed Removed Removed = refl
-later_assoc Removed Removed Kept = refl
-later_assoc Removed Kept Untouched = refl
-later_assoc Removed Kept Removed = refl
-later_assoc Removed Kept Kept = refl
-later_assoc Kept Untouched c = refl
-later_assoc Kept Removed Untouched = refl
-later_assoc Kept Removed Removed = refl
-later_assoc Kept Removed Kept = refl
-later_assoc Kept Kept Untouched = refl
-later_assoc Kept Kept Removed = refl
-later_assoc Kept Kept Kept = refl
+then_assoc : (a b c : StateFile) → then_change (then_change a b) c ≡ then_change a (then_change b c)
+then_assoc Untouched b c = refl
+then_assoc Removed Untouched c = refl
+then_assoc Removed Removed Untouched = refl
+then_assoc Removed Removed Removed = refl
+then_assoc Removed Removed Kept = refl
+then_assoc Removed Removed Several = refl
+then_assoc Removed Kept Untouched = refl
+then_assoc Removed Kept Removed = refl
+then_assoc Removed Kept Kept = refl
+then_assoc Removed Kept Several = refl
+then_assoc Removed Several c = refl
+then_assoc Kept Untouched c = refl
+then_assoc Kept Removed Untouched = refl
+then_assoc Kept Removed Removed = refl
+then_assoc Kept Removed Kept = refl
+then_assoc Kept Removed Several = refl
+then_assoc Kept Kept Untouched = refl
+then_assoc Kept Kept Removed = refl
+then_assoc Kept Kept Kept = refl
+then_assoc Kept Kept Several = refl
+then_assoc Kept Several c = refl
+then_assoc Several b c = refl
 
 pub append-unsaved : (a : Saving) → append_saving a unsaved ≡ a
-append-unsaved a i = record { bytes = append-nil a.bytes i; file = later_untouched a.file i }
+append-unsaved a i = record { bytes = append-nil a.bytes i; file = then_untouched a.file i }
 
 saving_assoc : (a b c : Saving) → append_saving (append_saving a b) c ≡ append_saving a (append_saving b c)
-saving_assoc a b c i = record { bytes = append_assoc a.bytes b.bytes c.bytes i; file = later_assoc a.file b.file c.file i }
+saving_assoc a b c i = record { bytes = append_assoc a.bytes b.bytes c.bytes i; file = then_assoc a.file b.file c.file i }
 
-later_none : (a b : StateFile) → later_change a b ≡ Untouched → a ≡ Untouched
-later_none Untouched b e = refl
-later_none Removed Untouched e = e
-later_none Removed Removed e = e
-later_none Removed Kept e = absurd (cc e)
-later_none Kept Untouched e = e
-later_none Kept Removed e = absurd (cc e)
-later_none Kept Kept e = e
+no_change : (a b : StateFile) → then_change a b ≡ Untouched → a ≡ Untouched
+no_change Untouched b e = refl
+no_change Removed Untouched e = e
+no_change Removed Removed e = absurd (cc e)
+no_change Removed Kept e = absurd (cc e)
+no_change Removed Several e = absurd (cc e)
+no_change Kept Untouched e = e
+no_change Kept Removed e = absurd (cc e)
+no_change Kept Kept e = absurd (cc e)
+no_change Kept Several e = absurd (cc e)
+no_change Several b e = e
 
 front_empty : (xs ys : List ℕ) → xs ++ ys ≡ [] → xs ≡ []
 front_empty [] ys e = refl
@@ -56,7 +67,7 @@ front_empty (x ∷ xs) ys e = absurd (cc e)
 pub front_unsaved : (a b : Saving) → append_saving a b ≡ unsaved → a ≡ unsaved
 front_unsaved a b e =
     let bytes : a.bytes ≡ [] = front_empty a.bytes b.bytes (ap (λ (s : Saving). s.bytes) e) in
-    let file : a.file ≡ Untouched = later_none a.file b.file (ap (λ (s : Saving). s.file) e) in
+    let file : a.file ≡ Untouched = no_change a.file b.file (ap (λ (s : Saving). s.file) e) in
     λ i. record { bytes = bytes i; file = file i }
 
 -- two parts that saved nothing
@@ -94,10 +105,6 @@ grew_nothing (Some s) = ap Some (sym (append-nothing s))
 pub grew_more : (a b c : Option Channels) (x y : Channels) → Grew a b x → Grew b c y → Grew a c (append x y)
 grew_more None b c x y p q = q ∙ ap (option_map (λ s. append s y)) p
 grew_more (Some s) b c x y p q = q ∙ ap (option_map (λ s. append s y)) p ∙ ap Some (channels_assoc s x y)
-
--- a state that was written, and its file's change
-pub state_then : (a b c : Option Channels) (bytes : List ℕ) (file : StateFile) → Grew a b (only State bytes) → Grew b c (only_file file) → Grew a c (append (only State bytes) (only_file file))
-state_then a b c bytes file p q = grew_more a b c (only State bytes) (only_file file) p q
 
 -- some growth, and a prefix of the next part
 pub prefix_in : (a b c : Option Channels) (x y z whole : Channels) → append x (append y z) ≡ whole → Grew a b x → GrewByPrefix b c y → GrewByPrefix a c whole

@@ -4,7 +4,7 @@ use Rattle.std.specs.Option.{option_map}
 use Rattle.vax_outside.specs.declared.traits.Chan.{Chan}
 use Rattle.vax_outside.specs.declared.traits.Chan.TheVariants.{Out, Report, Record, State}
 use Rattle.vax_outside.specs.declared.traits.StateFile.{StateFile}
-use Rattle.vax_outside.specs.declared.traits.StateFile.TheVariants.{Untouched, Removed, Kept}
+use Rattle.vax_outside.specs.declared.traits.StateFile.TheVariants.{Untouched, Removed, Kept, Several}
 
 -- the bytes of State, and what became of the file that they are for
 pub record Saving : Type 0 where
@@ -31,22 +31,29 @@ only Report bytes = record nothing { report = bytes }
 only Record bytes = record nothing { recorded = bytes }
 only State bytes = record nothing { saved = record unsaved { bytes = bytes } }
 
--- the state's file came to be this, and no byte was written
+-- this became of the state's file, and no byte was written
 abbrev pub only_file : StateFile → Channels
 only_file file = record nothing { saved = record unsaved { file = file } }
 
--- of two changes of the state's file the later one counts
-abbrev pub later_change : StateFile → StateFile → StateFile
-later_change Untouched file = file
-later_change Removed Untouched = Removed
-later_change Removed Removed = Removed
-later_change Removed Kept = Kept
-later_change Kept Untouched = Kept
-later_change Kept Removed = Removed
-later_change Kept Kept = Kept
+-- a state of these bytes was written and kept
+abbrev pub kept_state : List ℕ → Channels
+kept_state bytes = record nothing { saved = record { bytes = bytes; file = Kept } }
+
+-- one change after the other: two are more than one, so that no change is the start of another
+abbrev pub then_change : StateFile → StateFile → StateFile
+then_change Untouched file = file
+then_change Removed Untouched = Removed
+then_change Removed Removed = Several
+then_change Removed Kept = Several
+then_change Removed Several = Several
+then_change Kept Untouched = Kept
+then_change Kept Removed = Several
+then_change Kept Kept = Several
+then_change Kept Several = Several
+then_change Several file = Several
 
 abbrev pub append_saving : Saving → Saving → Saving
-append_saving a b = record { bytes = a.bytes ++ b.bytes; file = later_change a.file b.file }
+append_saving a b = record { bytes = a.bytes ++ b.bytes; file = then_change a.file b.file }
 
 -- one after the other, channel by channel
 abbrev pub append : Channels → Channels → Channels

@@ -1,7 +1,7 @@
 -- What clauses read of a sink in memory.
 use Rattle.std.specs.Prelude.{ℕ, ◌-◌, Bool, ◌||◌, ◌==◌, List, length, min, slice_index}
 use Rattle.std.specs.List.{list_any}
-use Rattle.vax_outside.specs.Channels.{Channels, bytes_on}
+use Rattle.vax_outside.specs.Channels.{Channels, bytes_on, then_change}
 use Rattle.vax_outside.specs.Fails.{names_write}
 use Rattle.vax_outside.specs.Faults.{raised}
 use Rattle.vax_outside.specs.declared.fails.Fail.{Fail}
@@ -36,9 +36,9 @@ limits_from room most fails = record { out = slice_index room 0; report = slice_
 abbrev pub channels_of : MemSink → Channels
 channels_of m = record { out = m.out.bytes.items; report = m.report.bytes.items; recorded = m.recorded.bytes.items; saved = record { bytes = m.state.bytes.items; file = m.file } }
 
--- the state's file came to be this
+-- one more change of the state's file
 abbrev pub changed : Channels → StateFile → Channels
-changed written file = record written { saved = record { bytes = written.saved.bytes; file = file } }
+changed written file = record written { saved = record { bytes = written.saved.bytes; file = then_change written.saved.file file } }
 
 -- the number of calls so far
 abbrev pub calls_of : MemSink → ℕ

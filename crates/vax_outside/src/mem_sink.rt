@@ -1,6 +1,6 @@
 //! Output channels in memory.
 ghost use Rattle.std.specs.Prelude.{◌≡◌, ◌-◌, ◌<◌, ◌≤◌, ◌++◌, [], length, take, min, is_err, vec_capacity, IfOk, OnErr, OnOk, Some};
-ghost use Rattle.vax_outside.specs.Channels.{Grew, bytes_on, nothing, only, only_file};
+ghost use Rattle.vax_outside.specs.Channels.{Grew, bytes_on, nothing, only, only_file, then_change};
 ghost use Rattle.vax_outside.specs.Faults.{CountsFailure, no_failures, raised};
 
 use crate::fails::is_write_named;
@@ -41,6 +41,17 @@ impl Channel {
         let front = bytes.split_at(count).0;
         self.bytes.extend_from_slice(front).unwrap();
         count
+    }
+}
+
+/// One change of the state's file after the other.
+fn then_change(before: StateFile, file: StateFile) -> StateFile
+    ensures { result ≡ then_change before file }
+{
+    match (before, file) {
+        (StateFile::Untouched, file) => file,
+        (before, StateFile::Untouched) => before,
+        _ => StateFile::Several,
     }
 }
 
@@ -140,7 +151,7 @@ impl MemSink {
         if named {
             return Err(Failed);
         }
-        self.file = file;
+        self.file = then_change(self.file, file);
         Ok(())
     }
 

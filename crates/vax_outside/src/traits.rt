@@ -66,6 +66,8 @@ pub enum StateFile {
     Removed,
     /// It holds the state that was written.
     Kept,
+    /// It was changed more than once.
+    Several,
 }
 
 /// Output channels.
