@@ -6,7 +6,7 @@ use Rattle.std.specs.Prelude.{IsOk}
 use Rattle.std.specs.Result.{IsErrAnd}
 use Rattle.vax_space.specs.declared.Area.{Area}
 use Rattle.vax_outside.specs.Blocks.{BlockFile}
-use Rattle.vax_outside.specs.Channels.{Channels, Grew, GrewByPrefix, append}
+use Rattle.vax_outside.specs.Channels.{Channels, Grew, GrewByPrefix, append, unsaved}
 use Rattle.vax_outside.specs.Faults.{Rose}
 use Rattle.vax_outside.specs.declared.faults.Failures.{Failures}
 use Rattle.vax_flat.specs.declared.Ending.{Ending}
@@ -63,9 +63,10 @@ unfolding lines_of
 sent_of from p b more place e =
     let report : more.report ≡ [] = sym (ap (λ (z : Channels). z.report) e) in
     let recorded : more.recorded ≡ [] = sym (ap (λ (z : Channels). z.recorded) e) in
+    let saved : more.saved ≡ unsaved = sym (ap (λ (z : Channels). z.saved) e) in
     record {
       output = ap (λ (z : Channels). z.out) e ∙ ap (λ (z : List ℕ). z ++ more.out) place;
-      only = λ i. record { out = more.out; report = report i; recorded = recorded i };
+      only = λ i. record { out = more.out; report = report i; recorded = recorded i; saved = saved i };
     }
 
 grew_sent : (from : Flat) (p : Paged) (more : Channels) (old new : Option Channels) → HasSent from p more → Grew old new more → Grew old new (writes more.out [])

@@ -1,7 +1,7 @@
 -- What the requests do, turn by turn.
 use Rattle.std.proofs.Common.{◌≡◌, ℕ, min, Bool, true, false, nat_lt, List, [], ◌∷◌, append-nil, codes, length, slice_index, Option, Some, None, Result, Ok, Err, refl, sym, ap, subst, ◌∙◌}
 use Rattle.vax_outside.specs.Blocks.{BlockFile}
-use Rattle.vax_outside.specs.Channels.{Channels, Grew, append}
+use Rattle.vax_outside.specs.Channels.{Channels, Grew, append, unsaved}
 use Rattle.vax_outside.specs.declared.faults.Failures.{Failures}
 use Rattle.vax_outside.proofs.Growth.{grew_nothing}
 use Rattle.vax_flat.specs.declared.Ending.{Ending}
@@ -246,7 +246,8 @@ unfolding lines_of
 only_sent p b more e =
     let report : more.report ≡ [] = sym (ap (λ (z : Channels). z.report) e) in
     let recorded : more.recorded ≡ [] = sym (ap (λ (z : Channels). z.recorded) e) in
-    λ i. record { out = more.out; report = report i; recorded = recorded i }
+    let saved : more.saved ≡ unsaved = sym (ap (λ (z : Channels). z.saved) e) in
+    λ i. record { out = more.out; report = report i; recorded = recorded i; saved = saved i }
 
 run_sends : (g : Setting) (count : ℕ) (s t : Stand) (p : Paged) → p.place ≡ t.at.place → Wrote (origin (limits_for g s count) g.areas s.at s.file s.sink) p t.sink → Sends s t []
 run_sends g count s t p at w = record {

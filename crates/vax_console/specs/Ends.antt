@@ -1,7 +1,7 @@
 -- How a session goes on and ends.
 use Rattle.std.specs.Prelude.{◌≡◌, ◌≢◌, ◌<◌, ◌≤◌, ◌+◌, ℕ, List, [], ◌∷◌, ◌++◌, Option, Some, None, Result, Ok, Err, min}
 use Rattle.vax_outside.specs.Blocks.{BlockFile}
-use Rattle.vax_outside.specs.Channels.{Channels, Grew, GrewByPrefix, only}
+use Rattle.vax_outside.specs.Channels.{Channels, Grew, GrewByPrefix, only, nothing}
 use Rattle.vax_outside.specs.Faults.{Rose}
 use Rattle.vax_outside.specs.declared.traits.Chan.TheVariants.{Report}
 use Rattle.vax_outside.specs.declared.faults.Failures.{Failures}
@@ -41,7 +41,7 @@ scene machine file sink = record { machine = machine; file = file; sink = sink }
 
 -- the program's output and the replies
 abbrev pub writes : (sent replies : List ℕ) → Channels
-writes sent replies = record { out = sent; report = replies; recorded = [] }
+writes sent replies = record nothing { out = sent; report = replies }
 
 -- how many steps a request may make
 abbrev pub steps_for : (limit : ℕ) → Session → Request → ℕ

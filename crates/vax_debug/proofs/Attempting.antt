@@ -1,10 +1,10 @@
 -- One attempt of a session's machine.
 use Rattle.std.proofs.Common.{◌≡◌, ◌<◌, ◌+◌, ◌-◌, ◌^◌, ◌&&◌, not, nat_le, is_some, ℕ, min, Bool, true, false, List, [], ◌++◌, append-nil, Option, None, Some, Result, Ok, Err, refl, sym, ap, subst, ◌∙◌, arith, inl, inr}
 use Rattle.vax_outside.specs.Blocks.{BlockFile}
-use Rattle.vax_outside.specs.Channels.{Channels, Grew, GrewByPrefix, only}
+use Rattle.vax_outside.specs.Channels.{Channels, Grew, GrewByPrefix, only, unsaved}
 use Rattle.vax_outside.specs.declared.traits.Chan.TheVariants.{Out}
 use Rattle.vax_outside.specs.declared.faults.Failures.{Failures}
-use Rattle.vax_outside.proofs.Growth.{grew_nothing}
+use Rattle.vax_outside.proofs.Growth.{grew_nothing, front_unsaved}
 use Rattle.vax_flat.specs.declared.Ending.{Ending}
 use Rattle.vax_flat.specs.Parts.{At, Within, Completes, gone_back, left_by, partway, turn}
 use Rattle.vax_flat.specs.Step.{Flat, ended, step, with_byte_sent}
@@ -306,7 +306,8 @@ sent_in_part : (old new : Option Channels) (bytes : List ℕ) → GrewByPrefix o
 sent_in_part old new bytes p =
     let report : p.prefix.report ≡ [] = none_left p.prefix.report p.rest.report (ap (λ (z : Channels). z.report) p.splits) in
     let recorded : p.prefix.recorded ≡ [] = none_left p.prefix.recorded p.rest.recorded (ap (λ (z : Channels). z.recorded) p.splits) in
-    let is : p.prefix ≡ writes p.prefix.out [] = λ i. record { out = p.prefix.out; report = report i; recorded = recorded i } in
+    let saved : p.prefix.saved ≡ unsaved = front_unsaved p.prefix.saved p.rest.saved (ap (λ (z : Channels). z.saved) p.splits) in
+    let is : p.prefix ≡ writes p.prefix.out [] = λ i. record { out = p.prefix.out; report = report i; recorded = recorded i; saved = saved i } in
     record { sent = p.prefix.out; replies = []; grew = subst (λ (z : Channels). Grew old new z) is p.grew }
 
 pub sends_only : (r : Result (Unit {0}) Failure) (old new : Option Channels) (bytes : List ℕ) → Sends r old new bytes → OnlyReplied old new

@@ -4,9 +4,9 @@ use Rattle.std.specs.Prelude.{IsErrAnd}
 use Rattle.std.proofs.lemmas.Grind.{flat_map-append}
 use Rattle.vax_outside.specs.Blocks.{BlockFile}
 use Rattle.vax_outside.specs.declared.faults.Failures.{Failures}
-use Rattle.vax_outside.specs.Channels.{Channels, Grew, GrewByPrefix, append, nothing}
+use Rattle.vax_outside.specs.Channels.{Channels, Grew, GrewByPrefix, append, nothing, unsaved}
 use Rattle.vax_outside.proofs.Counting.{counts_still, counts_then}
-use Rattle.vax_outside.proofs.Growth.{append-nothing, channels_assoc, grew_more, grew_nothing, prefix_in}
+use Rattle.vax_outside.proofs.Growth.{append-nothing, channels_assoc, grew_more, grew_nothing, prefix_in, both_unsaved}
 use Rattle.vax_flat.specs.Parts.{machine_at}
 use Rattle.vax_flat.specs.Step.{with_byte_sent}
 use Rattle.vax_flat.proofs.Runs.{Extends}
@@ -72,7 +72,7 @@ grows_again listed p q r a b = record {
 pub output_by : (listed : Bool) (p q : Paged) (sent : List ℕ) (made : List Eviction) → (machine_at q.place).output ≡ (machine_at p.place).output ++ sent → q.evictions ≡ p.evictions ++ made → output_of listed q ≡ append (output_of listed p) (both sent (lines_of listed made))
 output_by listed p q sent made a b =
     let e : lines_of listed q.evictions ≡ lines_of listed p.evictions ++ lines_of listed made = ap (lines_of listed) b ∙ lines_more listed p.evictions made in
-    λ i. record { out = a i; report = []; recorded = e i }
+    λ i. record { out = a i; report = []; recorded = e i; saved = unsaved }
 
 pub grows_by : (listed : Bool) (p q : Paged) (made : List Eviction) → Extends (machine_at p.place).output (machine_at q.place).output → q.evictions ≡ p.evictions ++ made → p.reads ≤ q.reads → Grows listed p q
 grows_by listed p q made x e later = record { more = both x.more (lines_of listed made); is = output_by listed p q x.more made x.is e; made = made; evictions = e; later = later }
@@ -141,7 +141,7 @@ lost_on o p q file now g l = record {
 -- nothing but Out and Record grew, one call after the other
 
 pub wrote_nothing : (listed : Bool) (a : Option Channels) → OnlyWrote listed a a
-wrote_nothing listed a = record { more = nothing; silent = refl; unlisted = λ e. refl; grew = grew_nothing a }
+wrote_nothing listed a = record { more = nothing; silent = refl; unlisted = λ e. refl; unsaved = refl; grew = grew_nothing a }
 
 both_none : (xs ys : List ℕ) → xs ≡ [] → ys ≡ [] → xs ++ ys ≡ []
 both_none xs ys a b = ap (λ (zs : List ℕ). zs ++ ys) a ∙ b
@@ -151,6 +151,7 @@ then_wrote listed a b c x y = record {
   more = append x.more y.more;
   silent = both_none x.more.report y.more.report x.silent y.silent;
   unlisted = λ e. both_none x.more.recorded y.more.recorded (x.unlisted e) (y.unlisted e);
+  unsaved = both_unsaved x.more.saved y.more.saved x.unsaved y.unsaved;
   grew = grew_more a b c x.more y.more x.grew y.grew;
 }
 
@@ -171,13 +172,13 @@ pass_nothing left now = record { sent = nothing; is = sym (append-nothing left);
 -- what was written of a paged run that goes on with the same bytes and evictions, or with a byte more
 
 pub output_same : (listed : Bool) (p q : Paged) → (machine_at q.place).output ≡ (machine_at p.place).output → q.evictions ≡ p.evictions → output_of listed q ≡ output_of listed p
-output_same listed p q a b = let e = ap (lines_of listed) b in λ i. record { out = a i; report = []; recorded = e i }
+output_same listed p q a b = let e = ap (lines_of listed) b in λ i. record { out = a i; report = []; recorded = e i; saved = unsaved }
 
 pub output_sent : (listed : Bool) (p q : Paged) (sent : Option ℕ) → (machine_at q.place).output ≡ with_byte_sent (machine_at p.place).output sent → q.evictions ≡ p.evictions → output_of listed q ≡ append (output_of listed p) (sent_by sent)
 output_sent listed p q None a b = output_same listed p q a b ∙ sym (append-nothing (output_of listed p))
 output_sent listed p q (Some byte) a b =
     let e = ap (lines_of listed) b ∙ sym (append-nil (lines_of listed p.evictions)) in
-    λ i. record { out = a i; report = []; recorded = e i }
+    λ i. record { out = a i; report = []; recorded = e i; saved = unsaved }
 
 -- both failed alike
 abbrev pub IsErrLike : {A B : Type 0} → Result A Fault → Result B Fault → Type 0

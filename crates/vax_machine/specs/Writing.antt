@@ -3,7 +3,7 @@ use Rattle.std.specs.Prelude.{ℕ, ◌≡◌, Bool, true, false, if◌then◌els
 use Rattle.std.specs.List.{flat_map}
 use Rattle.vax_space.specs.declared.Area.{Area}
 use Rattle.vax_outside.specs.Blocks.{BlockFile}
-use Rattle.vax_outside.specs.Channels.{Channels, Grew, GrewByPrefix, append, nothing, only}
+use Rattle.vax_outside.specs.Channels.{Channels, Grew, GrewByPrefix, append, nothing, only, unsaved}
 use Rattle.vax_outside.specs.Faults.{CountsFailure}
 use Rattle.vax_outside.specs.declared.faults.Failures.{Failures}
 use Rattle.vax_outside.specs.declared.traits.Chan.TheVariants.{Out, Record}
@@ -24,7 +24,7 @@ lines_of listed evictions = if listed then flat_map eviction_line evictions else
 
 -- these bytes on Out, and these on Record
 abbrev pub both : List ℕ → List ℕ → Channels
-both out recorded = record { out = out; report = []; recorded = recorded }
+both out recorded = record nothing { out = out; recorded = recorded }
 
 -- what a paged run writes
 abbrev pub output_of : Bool → Paged → Channels
@@ -70,6 +70,7 @@ pub record OnlyWrote (listed : Bool) (old new : Option Channels) : Type 0 where
   pub more : Channels
   pub silent : more.report ≡ []
   pub unlisted : listed ≡ false → more.recorded ≡ []
+  pub unsaved : more.saved ≡ unsaved
   pub grew : Grew old new more
 
 -- and whether evictions are listed stays

@@ -99,12 +99,14 @@ only_so end result text old mid new a b whole bytes g (inl h) =
     subst (λ (r : JobsEnd). OnlyReported r old new) (sym h.answer) (whole (record {
       grown = append (only channel.Out bytes) (only channel.Report text);
       unrecorded = refl;
+      unsaved = refl;
       grew = grew_more old mid new (only channel.Out bytes) (only channel.Report text) g h.wrote;
     }))
 only_so end result text old mid new a b whole bytes g (inr h) =
     subst (λ (r : JobsEnd). OnlyReported r old new) (sym h.answer) (record {
       grown = append (only channel.Out bytes) (only channel.Report text);
       unrecorded = refl;
+      unsaved = refl;
       grew = both_grew old mid new (only channel.Out bytes) (only channel.Report text) g h.wrote;
     })
 

@@ -1,6 +1,6 @@
 -- What programs come to that run together.
 use Rattle.std.specs.Prelude.{ℕ, suc, ◌≡◌, ◌≤◌, ◌⊎◌, List, [], Option, Some}
-use Rattle.vax_outside.specs.Channels.{Channels, Grew, GrewByPrefix, append, only}
+use Rattle.vax_outside.specs.Channels.{Channels, Grew, GrewByPrefix, append, only, unsaved}
 use Rattle.vax_outside.specs.Faults.{Rose}
 use Rattle.vax_outside.specs.declared.faults.Failures.{Failures}
 use Rattle.vax_outside.specs.declared.traits.Chan.TheVariants as channel
@@ -74,12 +74,14 @@ ReportsTo result failed x before old new = (s : Shared) → IsReady x before s �
 pub record HasGrown (old new : Option Channels) : Type 0 where
   pub grown : Channels
   pub unrecorded : grown.recorded ≡ []
+  pub unsaved : grown.saved ≡ unsaved
   pub grew : Grew old new grown
 
 -- or a write failed behind a prefix
 pub record HasGrownInPart (old new : Option Channels) : Type 0 where
   pub grown : Channels
   pub unrecorded : grown.recorded ≡ []
+  pub unsaved : grown.saved ≡ unsaved
   pub grew : GrewByPrefix old new grown
 
 abbrev pub OnlyReported : JobsEnd → (old new : Option Channels) → Type 0

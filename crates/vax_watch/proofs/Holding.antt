@@ -3,9 +3,9 @@ use Rattle.std.proofs.Common.{ℕ, ◌≡◌, ◌≤◌, Bool, false, List, [], 
 use Rattle.std.specs.Prelude.{if◌then◌else◌}
 use Rattle.vax_space.specs.declared.Area.{Area}
 use Rattle.vax_outside.specs.Blocks.{BlockFile}
-use Rattle.vax_outside.specs.Channels.{Channels, Grew, GrewByPrefix, append, nothing, only}
+use Rattle.vax_outside.specs.Channels.{Channels, Grew, GrewByPrefix, append, nothing, only, unsaved}
 use Rattle.vax_outside.specs.declared.traits.Chan.TheVariants.{Record}
-use Rattle.vax_outside.proofs.Growth.{append-nothing, channels_assoc, grew_more, grew_nothing, prefix_in}
+use Rattle.vax_outside.proofs.Growth.{append-nothing, channels_assoc, grew_more, grew_nothing, prefix_in, front_unsaved}
 use Rattle.vax_flat.specs.Parts.{At, machine_at}
 use Rattle.vax_pager.specs.Meaning.{pages}
 use Rattle.vax_machine.specs.Blocks.{Moved}
@@ -22,7 +22,7 @@ use Rattle.vax_watch.specs.Tracing.{Holds, PassedOn, Stage}
 
 -- what is held back has no lines
 unlisted_held : (h : Held) → h.listed ≡ false → held_in h ≡ both (held_in h).out []
-unlisted_held h e = let k : (if h.listed then h.lines else []) ≡ [] = ap (λ (b : Bool). if b then h.lines else []) e in λ i. record { out = h.bytes.items; report = []; recorded = k i }
+unlisted_held h e = let k : (if h.listed then h.lines else []) ≡ [] = ap (λ (b : Bool). if b then h.lines else []) e in λ i. record { out = h.bytes.items; report = []; recorded = k i; saved = unsaved }
 
 -- where a run goes on from here: all that is sent since counts, and what is held back
 abbrev pub origin_at : Paged → List ℕ → List Area → Option BlockFile → Option Channels → Origin
@@ -66,7 +66,8 @@ sent_since p q output areas file was now left s =
     let e = s.is in
     let report : s.sent.report ≡ [] = none_first s.sent.report left.report (sym (ap (λ (c : Channels). c.report) e)) in
     let recorded : s.sent.recorded ≡ [] = none_first s.sent.recorded left.recorded (sym (ap (λ (c : Channels). c.recorded) e)) in
-    record { is = ap (λ (c : Channels). c.out) e; only_out = λ i. record { out = s.sent.out; report = report i; recorded = recorded i } }
+    let saved : s.sent.saved ≡ unsaved = front_unsaved s.sent.saved left.saved (sym (ap (λ (c : Channels). c.saved) e)) in
+    record { is = ap (λ (c : Channels). c.out) e; only_out = λ i. record { out = s.sent.out; report = report i; recorded = recorded i; saved = saved i } }
 
 -- more is on Out, and more is on Record
 
@@ -152,7 +153,8 @@ lost_since p q output areas file was now w =
     let e = w.is in
     let report : w.more.report ≡ [] = sym (ap (λ (c : Channels). c.report) e) in
     let recorded : w.more.recorded ≡ [] = sym (ap (λ (c : Channels). c.recorded) e) in
-    record { is = ap (λ (c : Channels). c.out) e; only_out = λ i. record { out = w.more.out; report = report i; recorded = recorded i } }
+    let saved : w.more.saved ≡ unsaved = sym (ap (λ (c : Channels). c.saved) e) in
+    record { is = ap (λ (c : Channels). c.out) e; only_out = λ i. record { out = w.more.out; report = report i; recorded = recorded i; saved = saved i } }
 
 pub lost_turns : (t : Trace) (old : Option Channels) (steps : ℕ) (s : Stage) (p q : Paged) (h : Holds t old (machine_at p.place).output steps s) (now : Option Channels) → WrotePart (origin_at p (t.start.output ++ h.out) (pages s.system.machine.pager).areas s.system.file s.system.channels) q now → (made : ℕ) → q ≡ turns_of t made → steps ≤ (turns_of t made).steps → Runs (limits_of t) t.areas t.rules t.from made → IsLostTrace t old now
 lost_turns t old steps s p q h now w made is few goes =

@@ -190,7 +190,7 @@ returns-in_ok-list_step-in-Ended-clause-makes g c = λ t old f h d.
     stops_ended t old s2 f.begun r begins here m3 f3 now3 held3 unlisted ending gone between one seen c.in_ok-list_step-in-Ended.ensures.seen m4 f4 call.ensures.looked lines all c.in-Ended.ending low
 
 pub returns-in_err-make_room-clause-only : goal.returns-in_err-make_room-clause-only
-returns-in_err-make_room-clause-only g c = part_only _ _ (only Record c.args.notes.now.lines.items) refl c.in_err-make_room.ensures.prefix
+returns-in_err-make_room-clause-only g c = part_only _ _ (only Record c.args.notes.now.lines.items) refl refl c.in_err-make_room.ensures.prefix
 
 pub returns-in_err-begins-clause-only : goal.returns-in_err-begins-clause-only
 returns-in_err-begins-clause-only g c = passed_only _ _ _ _ c.in_ok-make_room.ensures.ok

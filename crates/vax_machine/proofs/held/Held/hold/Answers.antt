@@ -8,7 +8,7 @@ pub returns-in_err-make_space-clause-passes : goal.returns-in_err-make_space-cla
 returns-in_err-make_space-clause-passes g c = stuck _ _ _ _ _ _ _ _ (byte_behind _ _ c.args.byte) c.from_residual.result c.make_space.result (err_like c.from_residual.result c.make_space.result _ c.from_residual.ensures.1 c.in_err-make_space.was) c.make_space.ensures.passes
 
 pub returns-in_err-make_space-clause-still : goal.returns-in_err-make_space-clause-still
-returns-in_err-make_space-clause-still g c = record { listed = refl; only = only_passes _ _ _ c.make_space.result _ _ refl (λ e. refl) c.make_space.ensures.passes }
+returns-in_err-make_space-clause-still g c = record { listed = refl; only = only_passes _ _ _ c.make_space.result _ _ refl (λ e. refl) refl c.make_space.ensures.passes }
 
 pub returns-clause-passes : goal.returns-clause-passes
 returns-clause-passes g c =
@@ -16,7 +16,7 @@ returns-clause-passes g c =
     through _ _ _ _ _ _ _ _ e (byte_behind _ _ c.args.byte) c.in_ok-make_space.ensures.passes
 
 pub returns-clause-still : goal.returns-clause-still
-returns-clause-still g c = record { listed = refl; only = only_passes _ _ _ c.make_space.result _ _ refl (λ e. refl) c.make_space.ensures.passes }
+returns-clause-still g c = record { listed = refl; only = only_passes _ _ _ c.make_space.result _ _ refl (λ e. refl) refl c.make_space.ensures.passes }
 
 pub returns-in_err-make_space-clause-counts : goal.returns-in_err-make_space-clause-counts
 returns-in_err-make_space-clause-counts g c = λ file.

@@ -9,7 +9,7 @@ pub returns-in_err-make_room-in-Some-clause-passes : goal.returns-in_err-make_ro
 returns-in_err-make_room-in-Some-clause-passes g c = rw c.in-Some.is (stuck _ _ _ _ _ _ _ _ (listed_behind c.args.self.now c.args.turn c.in-Some.page c.if-self.true) c.from_residual.result c.make_room.result (err_like c.from_residual.result c.make_room.result _ c.from_residual.ensures.1 c.in_err-make_room-in-Some.was) c.make_room.ensures.passes)
 
 pub returns-in_err-make_room-in-Some-clause-still : goal.returns-in_err-make_room-in-Some-clause-still
-returns-in_err-make_room-in-Some-clause-still g c = record { listed = refl; only = only_passes _ _ _ c.make_room.result _ _ refl (never_unlisted _ c.if-self.true) c.make_room.ensures.passes }
+returns-in_err-make_room-in-Some-clause-still g c = record { listed = refl; only = only_passes _ _ _ c.make_room.result _ _ refl (never_unlisted _ c.if-self.true) refl c.make_room.ensures.passes }
 
 pub returns-in_ok-make_room-in-Some-clause-passes : goal.returns-in_ok-make_room-in-Some-clause-passes
 returns-in_ok-make_room-in-Some-clause-passes g c =
@@ -17,7 +17,7 @@ returns-in_ok-make_room-in-Some-clause-passes g c =
     rw c.in-Some.is (through _ _ _ _ _ _ _ _ e (listed_behind c.args.self.now c.args.turn c.in-Some.page c.if-self.true) c.in_ok-make_room-in-Some.ensures.passes)
 
 pub returns-in_ok-make_room-in-Some-clause-still : goal.returns-in_ok-make_room-in-Some-clause-still
-returns-in_ok-make_room-in-Some-clause-still g c = record { listed = refl; only = only_passes _ _ _ c.make_room.result _ _ refl (never_unlisted _ c.if-self.true) c.make_room.ensures.passes }
+returns-in_ok-make_room-in-Some-clause-still g c = record { listed = refl; only = only_passes _ _ _ c.make_room.result _ _ refl (never_unlisted _ c.if-self.true) refl c.make_room.ensures.passes }
 
 pub returns-else-self-clause-passes : goal.returns-else-self-clause-passes
 returns-else-self-clause-passes g c = rw c.in-Some.is (unlisted_passes c.args.self.now c.args.turn c.in-Some.page _ c.if-self.false)

@@ -13,7 +13,7 @@ returns-in_err-put-clause-puts g c =
     (writes_first c.deref.result.now lines c.from_residual.result c.put.result _ _ (err_like c.from_residual.result c.put.result _ c.from_residual.ensures.1 c.in_err-put.was) c.put.ensures.puts)
 
 pub returns-in_err-put-clause-still : goal.returns-in_err-put-clause-still
-returns-in_err-put-clause-still g c = record { listed = refl; only = only_puts _ _ _ c.put.result (only Out c.deref.result.now) refl (λ e. refl) c.put.ensures.puts }
+returns-in_err-put-clause-still g c = record { listed = refl; only = only_puts _ _ _ c.put.result (only Out c.deref.result.now) refl (λ e. refl) refl c.put.ensures.puts }
 
 pub returns-clause-puts : goal.returns-clause-puts
 returns-clause-puts g c =

@@ -10,7 +10,7 @@ returns-in_err-write_bytes-clause-passes g c =
     (err_like c.from_residual.result c.write_bytes.result _ c.from_residual.ensures.1 c.in_err-write_bytes.was) c.write_bytes.ensures.passes
 
 pub returns-in_err-write_bytes-clause-still : goal.returns-in_err-write_bytes-clause-still
-returns-in_err-write_bytes-clause-still g c = record { listed = refl; only = only_passes _ _ _ c.write_bytes.result _ _ refl (λ e. refl) c.write_bytes.ensures.passes }
+returns-in_err-write_bytes-clause-still g c = record { listed = refl; only = only_passes _ _ _ c.write_bytes.result _ _ refl (λ e. refl) refl c.write_bytes.ensures.passes }
 
 pub returns-in_err-write_bytes-clause-counts : goal.returns-in_err-write_bytes-clause-counts
 returns-in_err-write_bytes-clause-counts g c = λ file.
@@ -20,7 +20,7 @@ pub returns-clause-passes : goal.returns-clause-passes
 returns-clause-passes g c = through _ _ _ _ _ _ _ _ (bytes_first _ _) (bytes_whole _ _) c.in_ok-write_bytes.ensures.passes
 
 pub returns-clause-still : goal.returns-clause-still
-returns-clause-still g c = record { listed = refl; only = only_passes _ _ _ c.write_bytes.result _ _ refl (λ e. refl) c.write_bytes.ensures.passes }
+returns-clause-still g c = record { listed = refl; only = only_passes _ _ _ c.write_bytes.result _ _ refl (λ e. refl) refl c.write_bytes.ensures.passes }
 
 pub returns-then-steps-self-clause-passes : goal.returns-then-steps-self-clause-passes
 returns-then-steps-self-clause-passes g c = pass_nothing _ _
