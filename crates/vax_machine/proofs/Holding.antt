@@ -2,7 +2,7 @@
 use Rattle.std.proofs.Common.{ℕ, ◌≡◌, Bool, true, false, List, [], ◌∷◌, ◌++◌, append-nil, if◌then◌else◌, refl, ap, sym, ◌∙◌, subst, Option, Result, Ok, Err, Some}
 use Rattle.vax_outside.specs.Channels.{Channels, Grew, append, nothing, only, unsaved}
 use Rattle.vax_outside.specs.declared.traits.Chan.TheVariants.{Out, Record}
-use Rattle.vax_outside.proofs.Growth.{append-nothing, channels_assoc, grew_more, grew_nothing, prefix_in, append-unsaved, front_unsaved}
+use Rattle.vax_outside.proofs.Growth.{append-nothing, channels_assoc, grew_more, grew_nothing, prefix_in, front_unsaved}
 use Rattle.vax_sched.specs.Printed.{at_line}
 use Rattle.vax_machine.proofs.Outputs.{IsErrLike, then_wrote}
 use Rattle.vax_machine.specs.Writing.{OnlyWrote, Passed, Passes, Puts, StillWrites, both, held_in, listed_by, sent_by}
@@ -58,7 +58,7 @@ module _ (listed : Bool) (old new : Option Channels) where
     grew = p.wrote;
   }
   only_passes (Err Page) part left silent unlisted none p = absurd p
-  only_passes (Err Write) part left silent unlisted none p = only_puts (Err Write) (append part nothing) (append-nil part.report ∙ silent) (λ e. append-nil part.recorded ∙ unlisted e) (append-unsaved part.saved ∙ none) p
+  only_passes (Err Write) part left silent unlisted none p = only_puts (Err Write) (append part nothing) (append-nil part.report ∙ silent) (λ e. append-nil part.recorded ∙ unlisted e) (append-nil part.saved ∙ none) p
 
 -- a byte more
 

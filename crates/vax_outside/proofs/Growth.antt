@@ -3,93 +3,40 @@ use Rattle.std.proofs.Common.{◌≡◌, ◌<◌, ℕ, ◌+◌, List, [], ◌∷
 use Rattle.std.specs.Option.{option_map}
 use Rattle.std.specs.List.{flat_map, range_with_len}
 use Rattle.std.proofs.lemmas.List.FromFn.{length-range_with_len, get_or-range_with_len}
-use Rattle.std.proofs.lemmas.List.{take_more, take_all}
+use Rattle.std.proofs.lemmas.List.{map-append, take_more, take_all}
 use Rattle.std.proofs.lemmas.Grind.{flat_map-append}
 use Rattle.vax_outside.specs.declared.traits.Chan.{Chan}
 use Rattle.vax_outside.specs.declared.traits.Chan.TheVariants.{Out, Report, Record, State}
-use Rattle.vax_outside.specs.declared.traits.StateFile.{StateFile}
-use Rattle.vax_outside.specs.declared.traits.StateFile.TheVariants.{Untouched, Removed, Kept, Several}
-use Rattle.vax_outside.specs.Channels.{Channels, Saving, nothing, unsaved, only, append, append_saving, then_change, Grew, GrewByPrefix}
+use Rattle.vax_outside.specs.Channels.{Channels, SaveStep, Byte, nothing, unsaved, only, append, Grew, GrewByPrefix}
 
-then_untouched : (file : StateFile) → then_change file Untouched ≡ file
-then_untouched Untouched = refl
-then_untouched Removed = refl
-then_untouched Kept = refl
-then_untouched Several = refl
-
-then_assoc : (a b c : StateFile) → then_change (then_change a b) c ≡ then_change a (then_change b c)
-then_assoc Untouched b c = refl
-then_assoc Removed Untouched c = refl
-then_assoc Removed Removed Untouched = refl
-then_assoc Removed Removed Removed = refl
-then_assoc Removed Removed Kept = refl
-then_assoc Removed Removed Several = refl
-then_assoc Removed Kept Untouched = refl
-then_assoc Removed Kept Removed = refl
-then_assoc Removed Kept Kept = refl
-then_assoc Removed Kept Several = refl
-then_assoc Removed Several c = refl
-then_assoc Kept Untouched c = refl
-then_assoc Kept Removed Untouched = refl
-then_assoc Kept Removed Removed = refl
-then_assoc Kept Removed Kept = refl
-then_assoc Kept Removed Several = refl
-then_assoc Kept Kept Untouched = refl
-then_assoc Kept Kept Removed = refl
-then_assoc Kept Kept Kept = refl
-then_assoc Kept Kept Several = refl
-then_assoc Kept Several c = refl
-then_assoc Several b c = refl
-
-pub append-unsaved : (a : Saving) → append_saving a unsaved ≡ a
-append-unsaved a i = record { bytes = append-nil a.bytes i; file = then_untouched a.file i }
-
-saving_assoc : (a b c : Saving) → append_saving (append_saving a b) c ≡ append_saving a (append_saving b c)
-saving_assoc a b c i = record { bytes = append_assoc a.bytes b.bytes c.bytes i; file = then_assoc a.file b.file c.file i }
-
-no_change : (a b : StateFile) → then_change a b ≡ Untouched → a ≡ Untouched
-no_change Untouched b e = refl
-no_change Removed Untouched e = e
-no_change Removed Removed e = absurd (cc e)
-no_change Removed Kept e = absurd (cc e)
-no_change Removed Several e = absurd (cc e)
-no_change Kept Untouched e = e
-no_change Kept Removed e = absurd (cc e)
-no_change Kept Kept e = absurd (cc e)
-no_change Kept Several e = absurd (cc e)
-no_change Several b e = e
-
-front_empty : (xs ys : List ℕ) → xs ++ ys ≡ [] → xs ≡ []
+front_empty : {A : Type 0} (xs ys : List A) → xs ++ ys ≡ [] → xs ≡ []
 front_empty [] ys e = refl
 front_empty (x ∷ xs) ys e = absurd (cc e)
 
 -- the first part of nothing saved
-pub front_unsaved : (a b : Saving) → append_saving a b ≡ unsaved → a ≡ unsaved
-front_unsaved a b e =
-    let bytes : a.bytes ≡ [] = front_empty a.bytes b.bytes (ap (λ (s : Saving). s.bytes) e) in
-    let file : a.file ≡ Untouched = no_change a.file b.file (ap (λ (s : Saving). s.file) e) in
-    λ i. record { bytes = bytes i; file = file i }
+pub front_unsaved : (a b : List SaveStep) → a ++ b ≡ unsaved → a ≡ unsaved
+front_unsaved a b e = front_empty a b e
 
 -- two parts that saved nothing
-pub both_unsaved : (a b : Saving) → a ≡ unsaved → b ≡ unsaved → append_saving a b ≡ unsaved
-both_unsaved a b p q = ap (λ (s : Saving). append_saving s b) p ∙ q
+pub both_unsaved : (a b : List SaveStep) → a ≡ unsaved → b ≡ unsaved → a ++ b ≡ unsaved
+both_unsaved a b p q = ap (λ (steps : List SaveStep). steps ++ b) p ∙ q
 
 pub append-nothing : (a : Channels) → append a nothing ≡ a
-append-nothing a i = record { out = append-nil a.out i; report = append-nil a.report i; recorded = append-nil a.recorded i; saved = append-unsaved a.saved i }
+append-nothing a i = record { out = append-nil a.out i; report = append-nil a.report i; recorded = append-nil a.recorded i; saved = append-nil a.saved i }
 
 pub channels_assoc : (a b c : Channels) → append (append a b) c ≡ append a (append b c)
 channels_assoc a b c i = record {
   out = append_assoc a.out b.out c.out i;
   report = append_assoc a.report b.report c.report i;
   recorded = append_assoc a.recorded b.recorded c.recorded i;
-  saved = saving_assoc a.saved b.saved c.saved i;
+  saved = append_assoc a.saved b.saved c.saved i;
 }
 
 pub append-only : (chan : Chan) (xs ys : List ℕ) → append (only chan xs) (only chan ys) ≡ only chan (xs ++ ys)
 append-only Out xs ys = refl
 append-only Report xs ys = refl
 append-only Record xs ys = refl
-append-only State xs ys = refl
+append-only State xs ys = let e = sym (map-append Byte xs ys) in λ i. record nothing { saved = e i }
 
 pub only-nil : (chan : Chan) → only chan [] ≡ nothing
 only-nil Out = refl

@@ -1,3 +1,4 @@
 pub mod BlockLaws
 pub mod Counting
 pub mod Growth
+pub mod Saving

@@ -1,6 +1,6 @@
 //! Output channels in memory.
-ghost use Rattle.std.specs.Prelude.{◌≡◌, ◌-◌, ◌<◌, ◌≤◌, ◌++◌, [], length, take, min, is_err, vec_capacity, IfOk, OnErr, OnOk, Some};
-ghost use Rattle.vax_outside.specs.Channels.{Grew, bytes_on, nothing, only, only_file, then_change};
+ghost use Rattle.std.specs.Prelude.{◌≡◌, true, ◌-◌, ◌<◌, ◌≤◌, ◌++◌, [], length, take, min, is_err, vec_capacity, IfOk, OnErr, OnOk, Some};
+ghost use Rattle.vax_outside.specs.Channels.{Grew, bytes_on, change_of, file_of, is_changed, kept, nothing, only, removed};
 ghost use Rattle.vax_outside.specs.Faults.{CountsFailure, no_failures, raised};
 
 use crate::fails::is_write_named;
@@ -44,14 +44,13 @@ impl Channel {
     }
 }
 
-/// One change of the state's file after the other.
-fn then_change(before: StateFile, file: StateFile) -> StateFile
-    ensures { result ≡ then_change before file }
+/// Whether the state's file was changed.
+fn is_changed(file: StateFile) -> bool
+    ensures { result ≡ is_changed file }
 {
-    match (before, file) {
-        (StateFile::Untouched, file) => file,
-        (before, StateFile::Untouched) => before,
-        _ => StateFile::Several,
+    match file {
+        StateFile::Untouched => false,
+        StateFile::Removed | StateFile::Kept => true,
     }
 }
 
@@ -71,11 +70,11 @@ pub struct MemSink {
 }
 
 impl MemSink {
-    ghost use Rattle.vax_outside.specs.MemSink.{changed, channels_of, limits_from, limits_of, calls_of, faults_of, next_named, taken};
+    ghost use Rattle.vax_outside.specs.MemSink.{change_fails, channels_of, limits_from, limits_of, calls_of, faults_of, next_named, taken};
 
     /// Empty channels with room for so many bytes of Out, of Report, and of Record and State each. A write takes at
-    /// most `most` bytes. It fails exactly if `fails` names it or its channel's room is used up, and another call
-    /// exactly if `fails` names it.
+    /// most `most` bytes. It fails exactly if `fails` names it or its channel's room is used up. The state's file is
+    /// changed once: another change fails, and so does a write to State after it.
     pub fn new(
         alloc: Global,
         room: [u32; 3],
@@ -106,6 +105,7 @@ impl MemSink {
     }
 
     /// What was written to a channel.
+    #[tactic(auto, using(crate::proofs::Saving::read_bytes))]
     pub fn bytes(&self, chan: Chan) -> &[u8]
         ensures { result.now ≡ bytes_on (channels_of self.now) chan }
     {
@@ -118,8 +118,9 @@ impl MemSink {
     }
 
     /// What became of the state's file.
+    #[tactic(auto, using(crate::proofs::Saving::read_file))]
     pub fn state_file(&self) -> StateFile
-        ensures { result ≡ (channels_of self.now).saved.file }
+        ensures { result ≡ file_of (channels_of self.now).saved }
     {
         self.file
     }
@@ -137,24 +138,28 @@ impl MemSink {
     }
 
     /// A call that changes the state's file.
+    #[tactic(auto, using(crate::proofs::Saving::read_file))]
     fn change(&mut self, file: StateFile) -> Result<(), Failed>
-        ensures failed { is_err result ≡ next_named self.old }
-        ensures ok { OnOk result (channels_of self.new ≡ changed (channels_of self.old) file) }
+        requires { is_changed file ≡ true }
+        ensures failed { is_err result ≡ change_fails self.old }
+        ensures ok { OnOk result (Grew (Some (channels_of self.old)) (Some (channels_of self.new))
+            (record nothing { saved = change_of file })) }
         ensures err { OnErr result (channels_of self.new ≡ channels_of self.old) }
         ensures counts { CountsFailure (is_err result) (faults_of self.old) (faults_of self.new) }
         ensures last { (faults_of self.new).last ≡ is_err result }
         ensures limits { limits_of self.new ≡ limits_of self.old }
         ensures calls { calls_of self.new ≡ raised (calls_of self.old) }
     {
-        let named = self.is_named();
-        self.faults.note(named);
-        if named {
+        let failed = self.is_named() || is_changed(self.file);
+        self.faults.note(failed);
+        if failed {
             return Err(Failed);
         }
-        self.file = then_change(self.file, file);
+        self.file = file;
         Ok(())
     }
 
+    #[tactic(auto, using(crate::proofs::Saving::read_bytes, crate::proofs::Saving::read_file))]
     fn append(&mut self, chan: Chan, bytes: &[u8]) -> usize
         ensures count { result ≡ taken self.old chan (length bytes.now) }
         ensures bytes { Grew (Some (channels_of self.old)) (Some (channels_of self.new))
@@ -167,13 +172,14 @@ impl MemSink {
             Chan::Out => self.out.append(bytes, self.most),
             Chan::Report => self.report.append(bytes, self.most),
             Chan::Record => self.recorded.append(bytes, self.most),
+            Chan::State if is_changed(self.file) => 0,
             Chan::State => self.state.append(bytes, self.most),
         }
     }
 }
 
 impl Sink for MemSink {
-    ghost use Rattle.vax_outside.specs.MemSink.{channels_of, limits_of, calls_of, faults_of, taken, next_fails, next_named};
+    ghost use Rattle.vax_outside.specs.MemSink.{channels_of, limits_of, calls_of, faults_of, taken, next_fails, change_fails};
 
     ghost contents = { λ m. Some (channels_of m) };
 
@@ -208,11 +214,11 @@ impl Sink for MemSink {
 
     fn keep_state(&mut self) -> Result<(), Failed>
         ensures ok { OnOk result (Grew (Some (channels_of self.old))
-            (Some (channels_of self.new)) (only_file StateFile.Kept)) }
+            (Some (channels_of self.new)) kept) }
         ensures err { OnErr result (Some (channels_of self.new) ≡ Some (channels_of self.old)) }
         ensures counts { CountsFailure (is_err result) (faults_of self.old) (faults_of self.new) }
         ensures last { (faults_of self.new).last ≡ is_err result }
-        ensures failed { is_err result ≡ next_named self.old }
+        ensures failed { is_err result ≡ change_fails self.old }
         ensures limits { limits_of self.new ≡ limits_of self.old }
         ensures calls { calls_of self.new ≡ raised (calls_of self.old) }
     {
@@ -221,11 +227,11 @@ impl Sink for MemSink {
 
     fn remove_state(&mut self) -> Result<(), Failed>
         ensures ok { OnOk result (Grew (Some (channels_of self.old))
-            (Some (channels_of self.new)) (only_file StateFile.Removed)) }
+            (Some (channels_of self.new)) removed) }
         ensures err { OnErr result (Some (channels_of self.new) ≡ Some (channels_of self.old)) }
         ensures counts { CountsFailure (is_err result) (faults_of self.old) (faults_of self.new) }
         ensures last { (faults_of self.new).last ≡ is_err result }
-        ensures failed { is_err result ≡ next_named self.old }
+        ensures failed { is_err result ≡ change_fails self.old }
         ensures limits { limits_of self.new ≡ limits_of self.old }
         ensures calls { calls_of self.new ≡ raised (calls_of self.old) }
     {

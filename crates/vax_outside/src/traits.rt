@@ -1,7 +1,7 @@
 //! The traits of the outside, and what their calls answer.
 ghost use Rattle.std.specs.Prelude.{is_err, ◌≡◌, ◌<◌, ◌≤◌, length, take, IfOk, OnErr, OnOk, Option};
 ghost use Rattle.vax_outside.specs.Blocks.{BlockFile, GivesBlock, CountsRead, PutsBlock};
-ghost use Rattle.vax_outside.specs.Channels.{Channels, Grew, only, only_file};
+ghost use Rattle.vax_outside.specs.Channels.{Channels, Grew, kept, only, removed};
 ghost use Rattle.vax_outside.specs.Directory.{Directory, AnswersRead, is_failed};
 ghost use Rattle.vax_outside.specs.Faults.{CountsFailure};
 ghost use Rattle.vax_outside.specs.declared.faults.Failures.{Failures};
@@ -66,8 +66,6 @@ pub enum StateFile {
     Removed,
     /// It holds the state that was written.
     Kept,
-    /// It was changed more than once.
-    Several,
 }
 
 /// Output channels.
@@ -93,16 +91,14 @@ pub trait Sink {
     /// Ends a saved state: what was written to State becomes the state's file, in place of an older one. After a
     /// failure the older file is what it was.
     fn keep_state(&mut self) -> Result<(), Failed>
-        ensures ok { OnOk result
-            (Grew (contents self.old) (contents self.new) (only_file StateFile.Kept)) }
+        ensures ok { OnOk result (Grew (contents self.old) (contents self.new) kept) }
         ensures err { OnErr result (contents self.new ≡ contents self.old) }
         ensures counts { CountsFailure (is_err result) (faults self.old) (faults self.new) }
         ensures last { (faults self.new).last ≡ is_err result };
 
     /// Removes an older state's file, if there is one.
     fn remove_state(&mut self) -> Result<(), Failed>
-        ensures ok { OnOk result
-            (Grew (contents self.old) (contents self.new) (only_file StateFile.Removed)) }
+        ensures ok { OnOk result (Grew (contents self.old) (contents self.new) removed) }
         ensures err { OnErr result (contents self.new ≡ contents self.old) }
         ensures counts { CountsFailure (is_err result) (faults self.old) (faults self.new) }
         ensures last { (faults self.new).last ≡ is_err result };
