@@ -14,6 +14,7 @@ pub mod Unique
 pub mod Reader
 pub mod Scans
 pub mod Naming
+pub mod Opened
 pub mod Behind
 pub mod Placed
 pub mod Known

@@ -1,5 +1,5 @@
 -- What a reader of terms has read, from what stands at its places.
-use Rattle.std.proofs.Common.{◌≡◌, ◌≢◌, ◌<◌, ◌≤◌, ℕ, ◌+◌, Bool, true, false, List, [], ◌∷◌, length, drop, Option, Some, None, Result, Ok, Err, refl, ap, arith, ◌∙◌, sym, inl, inr, ⊎_elim}
+use Rattle.std.proofs.Common.{◌≡◌, ◌≢◌, ℕ, ◌+◌, Bool, true, false, List, [], ◌∷◌, length, drop, Option, Some, None, Result, Ok, Err, refl, ap, arith, ◌∙◌, sym, inl, inr, ⊎_elim}
 use Rattle.std.specs.Prelude.{slice_get, ◌⊎◌}
 use Rattle.std.proofs.lemmas.List.{drop_all, length-drop}
 use Rattle.std.specs.Int.{w64, cast_signed}
@@ -8,6 +8,7 @@ use Rattle.vax_lex.specs.Characters.{canonical_name}
 use Rattle.vax_lex.specs.Tokens.{token_text}
 use Rattle.vax_lex.specs.Values.{Operation, characters_value, mask_bit, Sense, combined, minus_of, complement_of, named}
 use Rattle.vax_lex.specs.Grammar.{Symbol, number, name, characters, mark, characters_in, symbol, symbol_of, symbols_of, is_that_mark, operator_in, operator_mark, names_then, term_then, joined_then, Term, constant, named_by, quoted, mask, single_mask, plus, minus, complement, bracketed, Joined, finish, joined, with_bit, mask_outcome, mask_value, single_mask_value, term_value, joined_value, Expression, spelling, value_of, Evaluates}
+use Rattle.vax_lex.specs.Nesting.{SoFar}
 use Rattle.vax_lex.specs.Reading.{NoTerm, ReadsTerm, NotOperator, ReadsExpression, ReadsNames, ReadsQuoted, ReadsMask, ReadsSingleMask}
 use Rattle.vax_lex.specs.declared.expression.Read.{Read}
 use Rattle.vax_lex.specs.declared.token.Token.{Token}
@@ -17,17 +18,8 @@ use Rattle.vax_lex.specs.declared.value.Value.{Value}
 use Rattle.vax_lex.specs.declared.value.Value.TheVariants.{Absolute}
 use Rattle.vax_lex.specs.declared.value.ExprError.{ExprError}
 use Rattle.vax_lex.specs.declared.value.ExprError.TheVariants.{Form}
-use Rattle.vax_lex.proofs.Symbols.{Stands, length-symbols, token_stands, nothing_stands, mark_stands, no_mark, operator_stands, no_operator}
+use Rattle.vax_lex.proofs.Symbols.{Stands, length-symbols, token_stands, nothing_stands, mark_stands, no_mark, no_operator}
 use Rattle.vax_lex.proofs.Unique.{first_code, second_code, letter_code, unique_term, unique_joined, bracket_ends}
-
--- An expression of which the terms before `end` have been read. What follows continues it, and nothing else does.
-pub record SoFar (names : Sense) (all : List Symbol) (at : ℕ) (answer : Result Value ExprError) (end : ℕ) : Type 0 where
-  pub begins : at < end
-  pub within : end ≤ length all
-  pub continues : (more : Joined) (rest : List Symbol) → joined_then more rest ≡ drop end all
-      → (t : Term) × (whole : Joined) × (term_then t (joined_then whole rest) ≡ drop at all) × (joined_value names (term_value names t) whole ≡ joined_value names answer more)
-  pub leaves : (t : Term) (whole : Joined) (rest : List Symbol) → NotOperator rest → term_then t (joined_then whole rest) ≡ drop at all
-      → (more : Joined) × (joined_then more rest ≡ drop end all)
 
 -- What the first symbols of a term say of it.
 some_symbol : (t : Term) (rest : List Symbol) → term_then t rest ≡ [] → ⊥
@@ -375,9 +367,9 @@ module _ (line : List ℕ) (tokens : List Token) where
     behind_operator operator symbols finish rest q e = absurd (q operator symbols e)
     behind_operator operator symbols (joined b u others) rest q e = (u, others, cc)
 
-    pub so_far_more : (at end : ℕ) (answer new : Result Value ExprError) (operator : Operation) (r : Read) → SoFar names all at answer end → operator_in (slice_get tokens end) ≡ Some operator
+    pub so_far_more : (at end : ℕ) (answer new : Result Value ExprError) (operator : Operation) (r : Read) → SoFar names all at answer end → Stands line tokens end (mark (operator_mark operator))
         → ReadsTerm names all (end + 1) (Some r) → new ≡ combined names.dialect operator answer r.answer → SoFar names all at new r.end
-    so_far_more at end answer new operator r s o h v = let x = h.2 in let there = operator_stands line tokens end operator o in record {
+    so_far_more at end answer new operator r s there h v = let x = h.2 in record {
       begins = omega (arith, s.begins, h.0);
       within = h.1;
       continues = λ more rest e.
@@ -392,10 +384,9 @@ module _ (line : List ℕ) (tokens : List Token) where
           (left.1, same.1);
     }
 
-    pub so_far_none : (at end : ℕ) (answer : Result Value ExprError) (operator : Operation) → SoFar names all at answer end → operator_in (slice_get tokens end) ≡ Some operator
+    pub so_far_none : (at end : ℕ) (answer : Result Value ExprError) (operator : Operation) → SoFar names all at answer end → Stands line tokens end (mark (operator_mark operator))
         → ReadsTerm names all (end + 1) None → ReadsExpression names all at None
-    so_far_none at end answer operator s o h t whole rest q e =
-        let there = operator_stands line tokens end operator o in
+    so_far_none at end answer operator s there h t whole rest q e =
         let before = s.leaves t whole rest q e in
         let left = behind_operator operator (drop (end + 1) all) before.0 rest q (before.1 ∙ there.is) in
         h left.0 (joined_then left.1 rest) left.2

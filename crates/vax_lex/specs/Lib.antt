@@ -2,6 +2,7 @@ pub mod Certain
 pub mod Characters
 pub mod Grammar
 pub mod Reading
+pub mod Nesting
 pub mod Statements
 pub mod Tokens
 pub mod Values

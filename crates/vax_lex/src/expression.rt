@@ -10,10 +10,12 @@ ghost use Rattle.vax_lex.specs.Grammar.{Evaluates, characters_in, Expression, sp
 ghost use Rattle.vax_lex.specs.KeptNames.{kept_name};
 ghost use Rattle.vax_lex.specs.Expressions.{value_at};
 ghost use Rattle.vax_lex.specs.Statements.{is_mark};
+ghost use Rattle.vax_lex.specs.Nesting.{BeginsTerm};
 ghost use Rattle.vax_lex.specs.Reading.{ReadsMask, ReadsSingleMask, ReadsQuoted, ReadsTerm, ReadsExpression, ReadsNames};
 
 use crate::character::is_word;
 use crate::name::CanonicalName;
+use crate::nesting::{Open, nested};
 use crate::token::{Token, TokenKind};
 use crate::value::{
     Binary, ExprError, Names, Outcome, Value, characters_value, combined, complement_of, mask_bit,
@@ -22,7 +24,7 @@ use crate::value::{
 use vax_dialect::Dialect;
 
 /// What has been read: its value or error, and the place of the first token behind it.
-#[derive(Drop)]
+#[derive(Clone, Copy)]
 pub(crate) struct Read {
     pub(crate) answer: Outcome,
     pub(crate) end: usize,
@@ -110,7 +112,7 @@ pub(crate) fn is_mark_at(tokens: &[Token], at: usize, mark: u8) -> bool
 }
 
 /// The operator that stands at a place, if there is one.
-fn operator_at(tokens: &[Token], at: usize) -> Option<Binary>
+pub(crate) fn operator_at(tokens: &[Token], at: usize) -> Option<Binary>
     ensures value { option_map operation_view result ≡ operator_in (slice_get tokens.now at) }
     ensures room { IfSome result (λ o. at < length tokens.now) }
     ensures small { IfSome result (λ o. at + 2 < 2 ^ 64) }
@@ -144,27 +146,29 @@ fn mask_outcome(mask: Option<u16>) -> Outcome
 
 /// The names of a register mask from a place on and the bracket behind them. The mask has the bits of the names
 /// before them, or is none where one of those is no register.
-fn names_from(line: &[u8], tokens: &[Token], at: usize, mask: Option<u16>) -> Option<Read>
+fn names_from(line: &[u8], tokens: &[Token], mut at: usize, mut mask: Option<u16>) -> Option<Read>
     requires { All (IsTokenOf line.now) tokens.now }
     ensures { ReadsNames mask (symbols_of line.now tokens.now) at result }
 {
-    let Some(token) = token_at(tokens, at) else {
-        return None;
-    };
-    let TokenKind::Name = token.kind else {
-        return None;
-    };
-    let name = name_of(line, token);
-    let mask = with_bit(mask, mask_bit(name.as_bytes()));
-    if is_mark_at(tokens, at + 1, b',') {
-        names_from(line, tokens, at + 2, mask)
-    } else if is_mark_at(tokens, at + 1, b'>') {
-        Some(Read {
-            answer: mask_outcome(mask),
-            end: at + 2,
-        })
-    } else {
-        None
+    loop {
+        let Some(token) = token_at(tokens, at) else {
+            return None;
+        };
+        let TokenKind::Name = token.kind else {
+            return None;
+        };
+        let name = name_of(line, token);
+        mask = with_bit(mask, mask_bit(name.as_bytes()));
+        if is_mark_at(tokens, at + 1, b'>') {
+            return Some(Read {
+                answer: mask_outcome(mask),
+                end: at + 2,
+            });
+        }
+        if !is_mark_at(tokens, at + 1, b',') {
+            return None;
+        }
+        at += 2;
     }
 }
 
@@ -235,58 +239,40 @@ fn quoted_at(line: &[u8], tokens: &[Token], at: usize) -> Option<Read>
     }
 }
 
-/// The term that begins with a `^`.
-#[cycle(expression)]
-fn operated<N: Names>(line: &[u8], tokens: &[Token], names: &N, at: usize) -> Option<Read>
+/// How a term begins.
+#[derive(Clone, Copy)]
+pub(crate) enum Start {
+    /// With what opens at its place, and with the term that begins at this other place.
+    Opens(Open, usize),
+    /// With no more than it is, or no term begins.
+    Whole(Option<Read>),
+}
+
+/// How the term begins whose first token is a `^`.
+fn operated<N: Names>(line: &[u8], tokens: &[Token], names: &N, at: usize) -> Start
     requires tokens { All (IsTokenOf line.now) tokens.now }
     requires caret { is_that_mark 94 (slice_get tokens.now at) ≡ true }
-    ensures { ReadsTerm (N.meaning names.now) (symbols_of line.now tokens.now) at result }
+    ensures { BeginsTerm (N.meaning names.now) (symbols_of line.now tokens.now) at result }
 {
     let Some(token) = token_at(tokens, at + 1) else {
-        return None;
+        return Start::Whole(None);
     };
     let TokenKind::Name = token.kind else {
-        return None;
+        return Start::Whole(None);
     };
     let name = name_of(line, token);
     if is_word(name.as_bytes(), b"C") {
-        let Some(read) = term(line, tokens, names, at + 2) else {
-            return None;
-        };
-        Some(Read {
-            answer: complement_of(names.dialect(), read.answer),
-            end: read.end,
-        })
+        Start::Opens(Open::Complement, at + 2)
     } else if is_word(name.as_bytes(), b"A") {
-        quoted_at(line, tokens, at + 2)
+        Start::Whole(quoted_at(line, tokens, at + 2))
     } else if is_word(name.as_bytes(), b"M") {
         if is_mark_at(tokens, at + 2, b'<') {
-            mask_at(line, tokens, at + 2)
+            Start::Whole(mask_at(line, tokens, at + 2))
         } else {
-            single_mask_at(names.dialect(), line, tokens, at + 2)
+            Start::Whole(single_mask_at(names.dialect(), line, tokens, at + 2))
         }
     } else {
-        None
-    }
-}
-
-/// The expression in brackets that begins with a `<`.
-#[cycle(expression)]
-fn bracketed<N: Names>(line: &[u8], tokens: &[Token], names: &N, at: usize) -> Option<Read>
-    requires tokens { All (IsTokenOf line.now) tokens.now }
-    requires bracket { is_that_mark 60 (slice_get tokens.now at) ≡ true }
-    ensures { ReadsTerm (N.meaning names.now) (symbols_of line.now tokens.now) at result }
-{
-    let Some(read) = expression(line, tokens, names, at + 1) else {
-        return None;
-    };
-    if is_mark_at(tokens, read.end, b'>') {
-        Some(Read {
-            answer: read.answer,
-            end: read.end + 1,
-        })
-    } else {
-        None
+        Start::Whole(None)
     }
 }
 
@@ -297,61 +283,63 @@ fn constant(number: u64) -> Outcome
     Ok(Value::Absolute(number.cast_signed()))
 }
 
-/// The term that begins with a mark.
-#[cycle(expression)]
-fn marked<N: Names>(line: &[u8], tokens: &[Token], names: &N, at: usize, mark: u8) -> Option<Read>
+/// How the term begins whose first token is this mark.
+fn marked<N: Names>(line: &[u8], tokens: &[Token], names: &N, at: usize, mark: u8) -> Start
     requires tokens { All (IsTokenOf line.now) tokens.now }
     requires mark { is_that_mark mark (slice_get tokens.now at) ≡ true }
     requires room { at < length tokens.now }
-    ensures { ReadsTerm (N.meaning names.now) (symbols_of line.now tokens.now) at result }
+    ensures { BeginsTerm (N.meaning names.now) (symbols_of line.now tokens.now) at result }
 {
     if mark == b'+' {
-        term(line, tokens, names, at + 1)
+        Start::Opens(Open::Plus, at + 1)
     } else if mark == b'-' {
-        let Some(read) = term(line, tokens, names, at + 1) else {
-            return None;
-        };
-        Some(Read {
-            answer: minus_of(names.dialect(), read.answer),
-            end: read.end,
-        })
+        Start::Opens(Open::Minus, at + 1)
     } else if mark == b'<' {
-        bracketed(line, tokens, names, at)
+        Start::Opens(Open::Bracket, at + 1)
     } else if mark == b'^' {
         operated(line, tokens, names, at)
     } else {
-        None
+        Start::Whole(None)
+    }
+}
+
+/// How the term begins that is at a place.
+pub(crate) fn begun<N: Names>(line: &[u8], tokens: &[Token], names: &N, at: usize) -> Start
+    requires { All (IsTokenOf line.now) tokens.now }
+    ensures { BeginsTerm (N.meaning names.now) (symbols_of line.now tokens.now) at result }
+{
+    let Some(token) = token_at(tokens, at) else {
+        return Start::Whole(None);
+    };
+    match token.kind {
+        TokenKind::Number(number) => Start::Whole(Some(Read {
+            answer: constant(number),
+            end: at + 1,
+        })),
+        TokenKind::Name => {
+            let name = name_of(line, token);
+            Start::Whole(Some(Read {
+                answer: named(names, name.as_bytes()),
+                end: at + 1,
+            }))
+        }
+        TokenKind::Mark(mark) => marked(line, tokens, names, at, mark),
+        TokenKind::Text => Start::Whole(None),
     }
 }
 
 /// The term that begins at a place.
-#[cycle(expression)]
 pub(crate) fn term<N: Names>(line: &[u8], tokens: &[Token], names: &N, at: usize) -> Option<Read>
     requires { All (IsTokenOf line.now) tokens.now }
     ensures { ReadsTerm (N.meaning names.now) (symbols_of line.now tokens.now) at result }
 {
-    let Some(token) = token_at(tokens, at) else {
-        return None;
-    };
-    match token.kind {
-        TokenKind::Number(number) => Some(Read {
-            answer: constant(number),
-            end: at + 1,
-        }),
-        TokenKind::Name => {
-            let name = name_of(line, token);
-            Some(Read {
-                answer: named(names, name.as_bytes()),
-                end: at + 1,
-            })
-        }
-        TokenKind::Mark(mark) => marked(line, tokens, names, at, mark),
-        TokenKind::Text => None,
+    match begun(line, tokens, names, at) {
+        Start::Opens(_, _) => nested(line, tokens, names, at),
+        Start::Whole(read) => read,
     }
 }
 
 /// The expression that begins at a place, as far as operators join terms to it.
-#[cycle(expression)]
 fn expression<N: Names>(line: &[u8], tokens: &[Token], names: &N, at: usize) -> Option<Read>
     requires { All (IsTokenOf line.now) tokens.now }
     ensures { ReadsExpression (N.meaning names.now) (symbols_of line.now tokens.now) at result }

@@ -13,6 +13,7 @@ mod expression;
 mod head;
 mod line;
 mod name;
+mod nesting;
 mod token;
 mod value;
 mod words;
