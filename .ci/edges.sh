@@ -1,6 +1,6 @@
 #!/usr/bin/env bash
-# edges.sh VAX: what a built program does at its edges, where no proof says it: with standard streams closed, with two runs in one folder, and by each
-# exit status. It works in a folder of its own, tells each case that isn't as it must be, and ends with 'N passed, M failed'.
+# edges.sh VAX: what a built program does at its edges, where no proof says it: with standard streams closed, with two runs in one folder, with states that
+# can't be saved, with files of a limited size, with interrupted writes, and by each exit status. It works in a folder of its own, tells each case that isn't as it must be, and ends with 'N passed, M failed'.
 set -u
 if [ $# -ne 1 ] || [ ! -x "$1" ]; then
   echo 'use: edges.sh VAX' >&2
@@ -184,6 +184,85 @@ for streams in 0 1 2 01 02 12 012; do
   without "$streams" bare NONE
   expect "no file, without $streams" $wanted $?
 done
+
+# ---- Saved states ----
+
+# limited BLOCKS WORDS..: the status of a call whose files may have so many kilobytes
+limited() {
+  (
+    ulimit -f "$1"
+    shift
+    exec "$vax" "$@" </dev/null >out 2>err
+  )
+  echo $?
+}
+
+# left_of_state: what is left of a state in this folder
+left_of_state() { echo "$(same older.rec vax.rec) $(ls -d vax.rec.new 2>/dev/null)"; }
+
+rm -f vax.pag vax.rec
+expect 'a saved state' '0 ENDING STEPS' "$(answer save large.mar number.mar --steps 2000)"
+expect 'who may read it' '600 ' "$(stat -c %a vax.rec) $(ls vax.rec.new 2>/dev/null)"
+cp vax.rec older.rec
+expect 'it goes on' '0 ENDING HALT' "$(answer resume vax.rec)"
+mkdir vax.rec.new
+expect 'a state that has no new file' '11 ' "$(answer save large.mar number.mar --steps 3000)"
+expect 'the older state' 'same vax.rec.new' "$(left_of_state)"
+rmdir vax.rec.new
+expect 'a state that is too large for a file' 11 "$(limited 1 save large.mar number.mar --steps 3000)"
+expect 'the older state still' 'same vax.rec.new' "$(left_of_state)"
+expect 'a state over a half one' '0 ENDING STEPS' "$(answer save large.mar number.mar --steps 2000)"
+expect 'it is whole' 'same ' "$(left_of_state)"
+expect 'a run that ends' '0 ENDING HALT' "$(answer save hello.mar --steps 1000000)"
+expect 'its older state' '' "$(ls vax.rec* 2>/dev/null)"
+mkdir vax.rec
+expect 'a state whose name a directory has' '11 ' "$(answer save large.mar number.mar --steps 2000)"
+expect 'an older state that is a directory' '11 ' "$(answer save hello.mar --steps 1000000)"
+rmdir vax.rec
+rm -f vax.rec.new
+printf 'STEP 3\nSAVE\n' >three.txt
+printf 'GO\nSAVE\n' >all.txt
+"$vax" debug hello.mar <three.txt >out 2>err
+expect 'a state saved by a session' '0 600 ' "$? $(stat -c %a vax.rec) $(ls vax.rec.new 2>/dev/null)"
+"$vax" debug hello.mar <all.txt >out 2>err
+expect 'a session whose program has ended' '0 ' "$? $(ls vax.rec* 2>/dev/null)"
+
+# ---- Files of a limited size, and who may read them ----
+
+rm -f vax.pag vax.rec
+umask 0
+expect 'a paged run for all to read' '0 ENDING HALT' "$(answer "${paged[@]}" --record on)"
+expect 'its files' '600 600' "$(stat -c %a vax.pag vax.rec | tr '\n' ' ' | sed 's/ *$//')"
+umask 022
+expect 'output to a file that may have no byte' 11 "$(limited 0 run hello.mar)"
+expect 'an image to a file that is too small' '11 1024' "$(limited 1 build large.mar number.mar) $(wc -c <out)"
+expect 'what may be written of it' same "$("$vax" build large.mar number.mar | head -c 1024 | cmp -s - out && echo same)"
+head -c 1024 /dev/zero >appended
+(
+  ulimit -f 1
+  exec "$vax" run hello.mar >>appended 2>/dev/null
+)
+expect 'output behind what fills a file' '11 1024' "$? $(wc -c <appended)"
+expect 'a trace that is too large' '11 1024' "$(limited 1 trace large.mar number.mar --steps 200) $(wc -c <vax.rec)"
+expect 'a page file that is too large' 9 "$(limited 1 "${paged[@]}")"
+expect 'the same, where no page needs it' 0 "$(limited 1 bare program.mar)"
+
+# ---- Interrupted writes ----
+
+if strace -o trace.txt true 2>/dev/null; then
+  # interrupted WORDS..: a call of which every second write is interrupted
+  interrupted() {
+    strace -o trace.txt -e trace=write,pwrite64 -e inject=write,pwrite64:error=EINTR:when=1+2 "$vax" "$@" </dev/null >out 2>err
+    echo "$? $(grep -c EINTR trace.txt | sed 's/^[1-9].*/some/')"
+  }
+
+  expect 'interrupted output' '0 some same' "$(interrupted run hello.mar) $("$vax" run hello.mar 2>/dev/null | cmp -s - out && echo same)"
+  expect 'an interrupted paged run' '0 some' "$(interrupted "${paged[@]}" --record on)"
+  expect 'what it wrote' 'same same same same' "$(same lone.out out) $(same lone.err err) $(same lone.vax.rec vax.rec) $(same lone.vax.pag vax.pag)"
+  expect 'an interrupted saving' '0 some same ' "$(interrupted save large.mar number.mar --steps 2000) $(left_of_state)"
+else
+  echo 'skipped: interrupted writes, since strace is not there or may not be used'
+fi
 
 # ---- A run's files are its own ----
 

@@ -1,5 +1,6 @@
 //! The adapters over the real files and streams. No clause says what these hold.
 use std::fs;
+use std::os::unix::fs::PermissionsExt;
 use std::test::Fail;
 use vax_outside::{
     Chan, Failed, Files, FilesFault, HostFiles, HostPages, HostSink, PageFile, Sink, put_all,
@@ -41,6 +42,7 @@ fn writes_host_channels(rt: HostRuntime) -> Result<(), Fail> {
     assert!(rt; put_all(&mut sink, Chan::Record, b"at 4\n") == Ok(()));
     assert!(rt; put_all(&mut sink, Chan::Record, b"at 8\n") == Ok(()));
     assert!(rt; fs::read_to_string(&rt, "vax.rec")?.as_str() == "at 4\nat 8\n");
+    assert!(rt; mode_of(&rt, "vax.rec")? == 0o600);
     assert!(rt; fs::read_to_string(&rt, "stale_record.tmp")?.as_str() == "stale");
     // Another run's record is another file.
     let mut other = HostSink::new(rt.stdout(), rt.stderr(), rt);
@@ -57,6 +59,52 @@ fn writes_host_channels(rt: HostRuntime) -> Result<(), Fail> {
     Ok(())
 }
 
+/// Who may do what with a file.
+fn mode_of(rt: &HostRuntime, name: &str) -> Result<u32, Fail> {
+    Ok(fs::metadata(rt, name)?.permissions().mode() & 0o777)
+}
+
+// A state takes the file's name when it is kept: whoever has the older file open keeps that, and a state that isn't
+// kept, or can't be, leaves the older file. Each file that is made is its owner's alone.
+#[test]
+fn keeps_host_states(rt: HostRuntime) -> Result<(), Fail> {
+    fs::write(&rt, "vax.rec", "older")?;
+    fs::write(&rt, "vax.rec.new", "half of another one")?;
+    let mut sink = HostSink::new(rt.stdout(), rt.stderr(), rt);
+    assert!(rt; put_all(&mut sink, Chan::State, b"VAX") == Ok(()));
+    assert!(rt; put_all(&mut sink, Chan::State, b"S") == Ok(()));
+    assert!(rt; fs::read_to_string(&rt, "vax.rec")?.as_str() == "older");
+    assert!(rt; fs::read_to_string(&rt, "vax.rec.new")?.as_str() == "VAXS");
+    assert!(rt; mode_of(&rt, "vax.rec.new")? == 0o600);
+    assert!(rt; sink.keep_state() == Ok(()));
+    assert!(rt; fs::read_to_string(&rt, "vax.rec")?.as_str() == "VAXS");
+    assert!(rt; mode_of(&rt, "vax.rec")? == 0o600);
+    assert!(rt; !fs::exists(&rt, "vax.rec.new")?);
+    // Another one that isn't kept, and one that is.
+    assert!(rt; put_all(&mut sink, Chan::State, b"half") == Ok(()));
+    let mut other = HostSink::new(rt.stdout(), rt.stderr(), rt);
+    assert!(rt; put_all(&mut other, Chan::State, b"next") == Ok(()));
+    assert!(rt; fs::read_to_string(&rt, "vax.rec")?.as_str() == "VAXS");
+    assert!(rt; other.keep_state() == Ok(()));
+    assert!(rt; fs::read_to_string(&rt, "vax.rec")?.as_str() == "next");
+    assert!(rt; other.remove_state() == Ok(()));
+    assert!(rt; !fs::exists(&rt, "vax.rec")?);
+    assert!(rt; other.remove_state() == Ok(()));
+    // A directory isn't taken away.
+    fs::create_dir(&rt, "vax.rec")?;
+    assert!(rt; put_all(&mut other, Chan::State, b"last") == Ok(()));
+    assert!(rt; other.keep_state() == Err(Failed));
+    assert!(rt; other.remove_state() == Err(Failed));
+    fs::remove_dir(&rt, "vax.rec")?;
+    fs::remove_file(&rt, "vax.rec.new")?;
+    // Nor is one in the way of the new file.
+    fs::create_dir(&rt, "vax.rec.new")?;
+    assert!(rt; other.write(Chan::State, b"VAXS") == Err(Failed));
+    assert!(rt; other.keep_state() == Err(Failed));
+    fs::remove_dir(&rt, "vax.rec.new")?;
+    Ok(())
+}
+
 // A page file is new, and its run's own, whatever another run does in the same folder.
 #[test]
 fn keeps_host_blocks(rt: HostRuntime) -> Result<(), Fail> {
@@ -65,6 +113,7 @@ fn keeps_host_blocks(rt: HostRuntime) -> Result<(), Fail> {
     let mut pages = HostPages::new(rt);
     let mut block = [0u8; 512];
     assert!(rt; pages.write_block(3, &[5u8; 512]) == Ok(()));
+    assert!(rt; mode_of(&rt, "vax.pag")? == 0o600);
     let mut other = HostPages::new(rt);
     assert!(rt; other.write_block(3, &[7u8; 512]) == Ok(()));
     assert!(rt; pages.read_block(3, &mut block) == Ok(()));

@@ -3,7 +3,8 @@ use std::alloc::{AllocError, Global};
 use std::process::Abort;
 use std::test::Fail as TestFail;
 use vax_outside::{
-    Chan, Fail, Failed, Files, FilesFault, MemFiles, MemPages, MemSink, PageFile, Sink, put_all,
+    Chan, Fail, Failed, Files, FilesFault, MemFiles, MemPages, MemSink, PageFile, Sink, StateFile,
+    put_all,
 };
 
 fn named(alloc: Global, name: &str, bytes: &[u8]) -> Result<(String, Vec<u8>), AllocError> {
@@ -53,6 +54,42 @@ fn writes_channels(rt: HostRuntime) -> Result<(), TestFail> {
     ] {
         assert!(rt; sink.bytes(chan) == text.as_bytes(), "{text}");
     }
+    Ok(())
+}
+
+// A state is kept once, with the bytes that were written before. A call that is to fail changes nothing, and what is
+// written to Record is another matter.
+#[test]
+fn keeps_states(rt: HostRuntime) -> Result<(), TestFail> {
+    let alloc = rt.alloc();
+    let fails = vec![in alloc; Fail::Call(3)]?;
+    let mut sink = MemSink::new(alloc, [1, 1, 4], 3, fails)?;
+    assert!(rt; put_all(&mut sink, Chan::State, b"VAXS") == Ok(()));
+    assert!(rt; sink.state_file() == StateFile::Untouched);
+    assert!(rt; sink.keep_state() == Err(Failed));
+    assert!(rt; sink.state_file() == StateFile::Untouched);
+    assert!(rt; put_all(&mut sink, Chan::Record, b"at 4") == Ok(()));
+    assert!(rt; sink.keep_state() == Ok(()));
+    assert!(rt; sink.state_file() == StateFile::Kept);
+    assert!(rt; sink.write(Chan::State, b"V") == Err(Failed));
+    assert!(rt; sink.remove_state() == Err(Failed));
+    assert!(rt; sink.state_file() == StateFile::Kept);
+    assert!(rt; sink.bytes(Chan::State) == b"VAXS".as_slice());
+    assert!(rt; sink.bytes(Chan::Record) == b"at 4".as_slice());
+    Ok(())
+}
+
+#[test]
+fn removes_states(rt: HostRuntime) -> Result<(), TestFail> {
+    let alloc = rt.alloc();
+    let fails = vec![in alloc; Fail::Write(1)]?;
+    let mut sink = MemSink::new(alloc, [1, 1, 4], 3, fails)?;
+    assert!(rt; sink.remove_state() == Err(Failed));
+    assert!(rt; sink.state_file() == StateFile::Untouched);
+    assert!(rt; sink.remove_state() == Ok(()));
+    assert!(rt; sink.state_file() == StateFile::Removed);
+    assert!(rt; sink.keep_state() == Err(Failed));
+    assert!(rt; sink.bytes(Chan::State).is_empty());
     Ok(())
 }
 

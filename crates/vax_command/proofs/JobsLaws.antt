@@ -81,10 +81,10 @@ record HasEnded (told : Option BlockFile) (outside : Outside) (setup : JobsSetup
 
 -- of what is untold little is said
 untold : (outside : Outside) (setup : JobsSetup) (result : JobsEnd) → OnlyReported result outside.sink.before.told outside.sink.after.told → CountsEnd result outside.pages.before.faults outside.pages.after.faults outside.sink.before.faults outside.sink.after.faults → HasEnded None outside setup (jobs_answer_to result)
-untold outside setup jobs_end.Done g c = record { meant = Done; grown = g.grown; went = (tt, g.unrecorded); ends = inl (record { answer = refl; grew = g.grew; quiet = c.written (λ e. cc) }) }
-untold outside setup jobs_end.Turns g c = record { meant = Turns; grown = g.grown; went = (tt, g.unrecorded); ends = inl (record { answer = refl; grew = g.grew; quiet = c.written (λ e. cc) }) }
-untold outside setup jobs_end.PageFault g c = record { meant = PageFault; grown = g.grown; went = (c.fault refl, g.unrecorded); ends = inl (record { answer = refl; grew = g.grew; quiet = c.written (λ e. cc) }) }
-untold outside setup jobs_end.WriteFault g c = record { meant = Done; grown = g.grown; went = (tt, g.unrecorded); ends = inr (record { answer = refl; prefix = g.grew; cause = c.cause refl }) }
+untold outside setup jobs_end.Done g c = record { meant = Done; grown = g.grown; went = (tt, g.unrecorded, g.unsaved); ends = inl (record { answer = refl; grew = g.grew; quiet = c.written (λ e. cc) }) }
+untold outside setup jobs_end.Turns g c = record { meant = Turns; grown = g.grown; went = (tt, g.unrecorded, g.unsaved); ends = inl (record { answer = refl; grew = g.grew; quiet = c.written (λ e. cc) }) }
+untold outside setup jobs_end.PageFault g c = record { meant = PageFault; grown = g.grown; went = (c.fault refl, g.unrecorded, g.unsaved); ends = inl (record { answer = refl; grew = g.grew; quiet = c.written (λ e. cc) }) }
+untold outside setup jobs_end.WriteFault g c = record { meant = Done; grown = g.grown; went = (tt, g.unrecorded, g.unsaved); ends = inr (record { answer = refl; prefix = g.grew; cause = c.cause refl }) }
 
 module _ (outside : Outside) (setup : JobsSetup) (file : BlockFile) (silent : AreSilent setup.starts) where
   abbrev x : Setting

@@ -5,9 +5,9 @@ use Rattle.vax_space.specs.declared.Area.{Area}
 use Rattle.vax_space.specs.Faults.{IsSpace}
 use Rattle.vax_outside.proofs.Counting.{rose_then}
 use Rattle.vax_outside.specs.Blocks.{BlockFile}
-use Rattle.vax_outside.specs.Channels.{Channels, Grew, GrewByPrefix, append, nothing, only}
+use Rattle.vax_outside.specs.Channels.{Channels, Grew, GrewByPrefix, append, nothing, only, unsaved}
 use Rattle.vax_outside.specs.declared.traits.Chan.TheVariants.{Report}
-use Rattle.vax_outside.proofs.Growth.{append-nothing, grew_more, grew_nothing, prefix_in}
+use Rattle.vax_outside.proofs.Growth.{append-nothing, grew_more, grew_nothing, prefix_in, both_unsaved}
 use Rattle.vax_flat.specs.Parts.{Place, At, Within, machine_at, units_done}
 use Rattle.vax_flat.specs.Port.{layout}
 use Rattle.vax_flat.specs.Step.{Flat}
@@ -102,8 +102,8 @@ as_shown s items dumps e = e
 
 nothing_yet : (listed : Bool) (b : Paged) → (machine_at b.place).output ≡ [] → b.evictions ≡ [] → output_of listed b ≡ nothing
 unfolding lines_of
-nothing_yet true b none e = let k = ap (flat_map eviction_line) e in λ i. record { out = none i; report = []; recorded = k i }
-nothing_yet false b none e = λ i. record { out = none i; report = []; recorded = [] }
+nothing_yet true b none e = let k = ap (flat_map eviction_line) e in λ i. record { out = none i; report = []; recorded = k i; saved = unsaved }
+nothing_yet false b none e = λ i. record { out = none i; report = []; recorded = []; saved = unsaved }
 
 all_of_it : (listed : Bool) (b p : Paged) (more : Channels) → output_of listed b ≡ nothing → output_of listed p ≡ append (output_of listed b) more → more ≡ output_of listed p
 all_of_it listed b p more none e = sym (e ∙ ap (λ (c : Channels). append c more) none)
@@ -197,8 +197,8 @@ module _ (outside : Outside) (c : Course) (m n : Engine) (f : IsReady m c.begins
   -- it stopped by itself, and the report was written: `read` is the page file before and after the memory for the report was read
   module _ (read : Change BlockFile) (up : HasFailed read → HasFailed outside.pages) (reads : ReadsFor c.items read.before.told outside.pages.after.told) (unread : c.items ≡ [] → outside.pages.after.told ≡ read.before.told) (end : RunEnd) (why : Why) (is : why_of end ≡ Some why) (status : Status) (grown : Channels) (out : OnlyWrote c.limits.listed outside.sink.before.told mid.told) (quiet : mid.faults.count ≡ outside.sink.before.faults.count) (ends : EndsFrom mid outside.sink.after status grown result) where
     answer_is : IsReported read n (last_of why) (status_of c.strict n.cpu.core why) c.items status grown → IsUnseen c outside status (append out.more grown)
-    answer_is (inl r) = record { answer = subst (IsRunAnswer c.strict (HasFailed outside.pages)) (sym r.0) (answers (HasFailed outside.pages) c.strict n.cpu.core why); unlisted = λ off. unlisted out.more grown (out.unlisted off) (let d = r.1 in ap (λ (g : Channels). g.recorded) d.2) }
-    answer_is (inr r) = record { answer = subst (IsRunAnswer c.strict (HasFailed outside.pages)) (sym r.1) (up r.0); unlisted = λ off. unlisted out.more grown (out.unlisted off) (ap (λ (g : Channels). g.recorded) r.2) }
+    answer_is (inl r) = record { answer = subst (IsRunAnswer c.strict (HasFailed outside.pages)) (sym r.0) (answers (HasFailed outside.pages) c.strict n.cpu.core why); unlisted = λ off. unlisted out.more grown (out.unlisted off) (let d = r.1 in ap (λ (g : Channels). g.recorded) d.2); unsaved = both_unsaved out.more.saved grown.saved out.unsaved (let d = r.1 in ap (λ (g : Channels). g.saved) d.2) }
+    answer_is (inr r) = record { answer = subst (IsRunAnswer c.strict (HasFailed outside.pages)) (sym r.1) (up r.0); unlisted = λ off. unlisted out.more grown (out.unlisted off) (ap (λ (g : Channels). g.recorded) r.2); unsaved = both_unsaved out.more.saved grown.saved out.unsaved (ap (λ (g : Channels). g.saved) r.2) }
 
     whole_by : (file : BlockFile) → IsWhole c.limits c.areas c.rules c.begins end (Some file) n read.before.told outside.sink.before.told mid.told → IsReported read n (last_of why) (status_of c.strict n.cpu.core why) c.items status grown → By (Some file)
     whole_by file w (inl r) =
@@ -265,7 +265,7 @@ module _ (outside : Outside) (c : Course) (m n : Engine) (f : IsReady m c.begins
   cut_by : (told : Option BlockFile) → HasFailed outside.pages → Did c m told run_end.PageFault n outside.pages.after.told outside.sink.before.told mid.told → OnlyWrote c.limits.listed outside.sink.before.told mid.told → mid.faults.count ≡ outside.sink.before.faults.count → EndsFrom mid outside.sink.after PageFault (only Report (machine_report n lasts.PageFault [])) result → By told
   cut_by None rose did out quiet ends =
       let text = only Report (machine_report n lasts.PageFault []) in
-      record { meant = PageFault; grown = append out.more text; so = record { answer = rose; unlisted = λ off. unlisted out.more text (out.unlisted off) refl }; ends = ends_after outside.sink.before mid outside.sink.after PageFault out.more text result out.grew quiet ends }
+      record { meant = PageFault; grown = append out.more text; so = record { answer = rose; unlisted = λ off. unlisted out.more text (out.unlisted off) refl; unsaved = both_unsaved out.more.saved text.saved out.unsaved refl }; ends = ends_after outside.sink.before mid outside.sink.after PageFault out.more text result out.grew quiet ends }
   cut_by (Some file) rose did out quiet ends =
       let b = broken_by file did quiet ends in
       record { meant = b.meant; grown = b.grown; so = inr (rose, inr b.so); ends = b.ends }
@@ -290,7 +290,7 @@ module _ (outside : Outside) (c : Course) (m n : Engine) (f : IsReady m c.begins
   lost_by None did out rose = record {
     meant = Done;
     grown = out.more;
-    so = record { answer = tt; unlisted = out.unlisted };
+    so = record { answer = tt; unlisted = out.unlisted; unsaved = out.unsaved };
     ends = inr (record { answer = refl; prefix = record { prefix = out.more; rest = nothing; splits = append-nothing out.more; grew = out.grew }; cause = rose });
   }
   lost_by (Some file) did out rose =
@@ -379,7 +379,7 @@ module _ (setup : Setup) (m : Engine) (f : Starts setup m) where
         }
 
     went_from : (told : Option BlockFile) → WentOnFrom told outside (course_of setup) status grown → WentFrom told outside setup status grown
-    went_from None w = record { answer = w.answer; unlisted = w.unlisted }
+    went_from None w = record { answer = w.answer; unlisted = w.unlisted; unsaved = w.unsaved }
     went_from (Some file) (inl w) = inl (record { stop = stop_of file w.halt; answer = w.answer; wrote = w.wrote; blocks = as_runs w.halt.count file w.blocks })
     went_from (Some file) (inr (rose, inl w)) = inr (rose, inl (record { stop = stop_of file w.halt; answer = w.answer; wrote = w.wrote; blocks = as_run w.halt.count file outside.pages.after.told w.blocks }))
     went_from (Some file) (inr (rose, inr w)) = inr (rose, inr (as_cut file w))

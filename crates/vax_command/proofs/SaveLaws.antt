@@ -1,9 +1,9 @@
 -- What saving a run where a limit stops it comes to, from what the machine did.
 use Rattle.std.proofs.Common.{◌≡◌, ◌⊎◌, ◌-◌, ℕ, Bool, false, List, [], Option, Some, None, refl, sym, ap, subst, ◌∙◌, inl, inr}
 use Rattle.vax_outside.specs.Blocks.{BlockFile}
-use Rattle.vax_outside.specs.Channels.{Channels, Grew, GrewByPrefix, append, nothing, only}
-use Rattle.vax_outside.specs.declared.traits.Chan.TheVariants.{Record, Report}
-use Rattle.vax_outside.proofs.Growth.{append-nothing, grew_nothing, prefix_in}
+use Rattle.vax_outside.specs.Channels.{Channels, Grew, GrewByPrefix, append, nothing, only, kept, removed}
+use Rattle.vax_outside.specs.declared.traits.Chan.TheVariants.{Report, State}
+use Rattle.vax_outside.proofs.Growth.{append-nothing, grew_nothing, prefix_in, channels_assoc}
 use Rattle.vax_flat.specs.Parts.{Place, machine_at}
 use Rattle.vax_flat.specs.declared.Ending.{Ending}
 use Rattle.vax_flat.specs.declared.Ending.TheVariants as ending
@@ -15,6 +15,7 @@ use Rattle.vax_machine.specs.Machine.{Keeping, Means}
 use Rattle.vax_machine.specs.Meaning.{units_of}
 use Rattle.vax_report.specs.Report.{report}
 use Rattle.vax_save.specs.Saving.{IsKept}
+use Rattle.vax_save.proofs.Parting.{part_of}
 use Rattle.vax_machine.specs.Paged.{Eviction, Paged, Why, ByEnding, BySteps, ByTurns}
 use Rattle.vax_machine.specs.Run.{FewTurns, IsWhole, why_of}
 use Rattle.vax_machine.specs.Writing.{OnlyWrote, both, lines_of}
@@ -38,7 +39,7 @@ use Rattle.vax_command.specs.Ends.{Ends, EndsFrom, EndsSo}
 use Rattle.vax_command.specs.Fresh.{machine_report}
 use Rattle.vax_command.specs.Loaded.{Loaded}
 use Rattle.vax_command.specs.Running.{IsFaulty}
-use Rattle.vax_command.specs.Saving.{AnswersSave, HasRunSaved, HasSavedRun, IsLimited, SaveWent, SaveWentFrom, SavesAt, saved_setup, saving_output, state_by}
+use Rattle.vax_command.specs.Saving.{AnswersSave, HasRunSaved, HasSavedRun, IsLimited, SaveWent, SaveWentFrom, SavesAt, saved_setup, saving_output, state_by, state_at}
 use Rattle.vax_command.specs.Setup.{Setup, run_of}
 use Rattle.vax_command.specs.Status.{refusal_growth}
 use Rattle.vax_command.specs.Went.{IsRunAnswer, last_of, run_report}
@@ -70,7 +71,7 @@ off (ByEnding e) core = done core e
 off BySteps core = refl
 off ByTurns core = refl
 
-limited_state : (why : Why) (s : Stage) → IsLimited why → only Record (saved s.place s.steps) ≡ state_by why s
+limited_state : (why : Why) (s : Stage) → IsLimited why → state_at s.place s.steps ≡ state_by why s
 limited_state (ByEnding e) s h = absurd h
 limited_state BySteps s h = refl
 limited_state ByTurns s h = refl
@@ -90,50 +91,63 @@ same_report m n before after k why =
 -- where the state of a machine was saved, and the report written
 
 module _ (sink : Change Channels) (pages : Change BlockFile) (m n : Engine) (why : Last) (meant result : Status) (same : (last : Last) → machine_report n last [] ≡ machine_report m last []) (mid : Seen Channels) (quiet : mid.faults.count ≡ sink.before.faults.count) where
-  pub saved_whole : (place : Place) → Grew sink.before.told mid.told (only Record (saved place m.steps)) → EndsFrom mid sink.after meant (only Report (machine_report n why [])) result → EndsSo sink (SavesAt pages m place why meant) result
+  pub saved_whole : (place : Place) → Grew sink.before.told mid.told (state_at place m.steps) → EndsFrom mid sink.after meant (only Report (machine_report n why [])) result → EndsSo sink (SavesAt pages m place why meant) result
   saved_whole place grew ends = record {
     meant = meant;
-    grown = append (only Record (saved place m.steps)) (only Report (machine_report m why []));
+    grown = append (state_at place m.steps) (only Report (machine_report m why []));
     so = inl (refl, refl);
-    ends = subst (λ (z : Text). Ends sink meant (append (only Record (saved place m.steps)) (only Report z)) result) (same why) (ends_after sink.before mid sink.after meant (only Record (saved place m.steps)) (only Report (machine_report n why [])) result grew quiet ends);
+    ends = subst (λ (z : Text). Ends sink meant (append (state_at place m.steps) (only Report z)) result) (same why) (ends_after sink.before mid sink.after meant (state_at place m.steps) (only Report (machine_report n why [])) result grew quiet ends);
   }
 
-  pub saved_part : (place : Place) → HasFailed pages → GrewByPrefix sink.before.told mid.told (only Record (saved place m.steps)) → EndsFrom mid sink.after PageFault (only Report (machine_report n lasts.PageFault [])) result → EndsSo sink (SavesAt pages m place why meant) result
-  saved_part place rose part ends = record {
-    meant = PageFault;
-    grown = append part.prefix (only Report (machine_report m lasts.PageFault []));
-    so = inr (rose, refl, (part.prefix, part.rest, part.splits, refl));
-    ends = subst (λ (z : Text). Ends sink PageFault (append part.prefix (only Report z)) result) (same lasts.PageFault) (ends_after sink.before mid sink.after PageFault part.prefix (only Report (machine_report n lasts.PageFault [])) result part.grew quiet ends);
-  }
+  pub saved_part : (place : Place) → HasFailed pages → GrewByPrefix sink.before.told mid.told (only State (saved place m.steps)) → EndsFrom mid sink.after PageFault (only Report (machine_report n lasts.PageFault [])) result → EndsSo sink (SavesAt pages m place why meant) result
+  saved_part place rose prefix ends =
+      let h = part_of sink.before.told mid.told (saved place m.steps) prefix in
+      record {
+        meant = PageFault;
+        grown = append (only State h.part) (only Report (machine_report m lasts.PageFault []));
+        so = inr (rose, refl, (h.part, h.rest, h.splits, refl));
+        ends = subst (λ (z : Text). Ends sink PageFault (append (only State h.part) (only Report z)) result) (same lasts.PageFault) (ends_after sink.before mid sink.after PageFault (only State h.part) (only Report (machine_report n lasts.PageFault [])) result h.grew quiet ends);
+      }
 
   -- whatever the page file told
-  pub saved_answer : (whole : List ℕ) → GrewByPrefix sink.before.told mid.told (only Record whole) → (last : Last) (status : Status) → (status ≡ meant) ⊎ (HasFailed pages × (status ≡ PageFault)) → EndsFrom mid sink.after status (only Report (machine_report n last [])) result → EndsSo sink (AnswersSave pages meant) result
-  saved_answer whole part last status so ends = record {
+  pub saved_answer : (more : Channels) → Grew sink.before.told mid.told more → (last : Last) (status : Status) → (status ≡ meant) ⊎ (HasFailed pages × (status ≡ PageFault)) → EndsFrom mid sink.after status (only Report (machine_report n last [])) result → EndsSo sink (AnswersSave pages meant) result
+  saved_answer more grew last status so ends = record {
     meant = status;
-    grown = append part.prefix (only Report (machine_report n last []));
+    grown = append more (only Report (machine_report n last []));
     so = so;
-    ends = ends_after sink.before mid sink.after status part.prefix (only Report (machine_report n last [])) result part.grew quiet ends;
+    ends = ends_after sink.before mid sink.after status more (only Report (machine_report n last [])) result grew quiet ends;
   }
 
 -- a write failed
-pub saved_lost : (sink : Change Channels) (pages : Change BlockFile) (m : Engine) (why : Last) (meant : Status) (place : Place) → HasFailed sink → GrewByPrefix sink.before.told sink.after.told (only Record (saved place m.steps)) → EndsSo sink (SavesAt pages m place why meant) WriteFault
+pub saved_lost : (sink : Change Channels) (pages : Change BlockFile) (m : Engine) (why : Last) (meant : Status) (place : Place) → HasFailed sink → GrewByPrefix sink.before.told sink.after.told (only State (saved place m.steps)) → EndsSo sink (SavesAt pages m place why meant) WriteFault
 saved_lost sink pages m why meant place rose part =
-    let state = only Record (saved place m.steps) in
+    let bytes = only State (saved place m.steps) in
+    let state = state_at place m.steps in
     let text = only Report (machine_report m why []) in
     record {
       meant = meant;
       grown = append state text;
       so = inl (refl, refl);
-      ends = inr (record { answer = refl; prefix = prefix_in sink.before.told sink.before.told sink.after.told nothing state text (append state text) refl (grew_nothing sink.before.told) part; cause = rose });
+      ends = inr (record { answer = refl; prefix = prefix_in sink.before.told sink.before.told sink.after.told nothing bytes (append kept text) (append state text) (sym (channels_assoc bytes kept text)) (grew_nothing sink.before.told) part; cause = rose });
     }
 
-pub answer_lost : (sink : Change Channels) (pages : Change BlockFile) (meant : Status) (whole : List ℕ) → HasFailed sink → GrewByPrefix sink.before.told sink.after.told (only Record whole) → EndsSo sink (AnswersSave pages meant) WriteFault
+pub answer_lost : (sink : Change Channels) (pages : Change BlockFile) (meant : Status) (whole : List ℕ) → HasFailed sink → GrewByPrefix sink.before.told sink.after.told (only State whole) → EndsSo sink (AnswersSave pages meant) WriteFault
 answer_lost sink pages meant whole rose part = record {
   meant = meant;
-  grown = only Record whole;
+  grown = only State whole;
   so = inl refl;
   ends = inr (record { answer = refl; prefix = part; cause = rose });
 }
+
+-- an older state was removed, and the report was written, or a call for one of these failed
+
+pub removed_whole : (sink : Change Channels) (mid : Seen Channels) (meant result : Status) (text : Channels) → Grew sink.before.told mid.told removed → mid.faults.count ≡ sink.before.faults.count → EndsFrom mid sink.after meant text result → Ends sink meant (append removed text) result
+removed_whole sink mid meant result text grew quiet ends = ends_after sink.before mid sink.after meant removed text result grew quiet ends
+
+pub removed_not : (sink : Change Channels) (meant : Status) (text : Channels) → HasFailed sink → sink.after.told ≡ sink.before.told → Ends sink meant (append removed text) WriteFault
+removed_not sink meant text rose same =
+    let whole = append removed text in
+    inr (record { answer = refl; prefix = record { prefix = nothing; rest = whole; splits = refl; grew = same ∙ grew_nothing sink.before.told }; cause = rose })
 
 -- What is known of a run of a machine from a start: what it sees of the outside, the machine that it leaves, the sink behind it, and the answer.
 module _ (outside : Outside) (setup : Setup) (m n : Engine) (f : Starts setup m) (unlisted : setup.limits.listed ≡ false) (strict : setup.strict ≡ strictly.Off) (mid : Seen Channels) (result : Status) where
@@ -171,9 +185,9 @@ module _ (outside : Outside) (setup : Setup) (m n : Engine) (f : Starts setup m)
     answer_one status e = rw (strict, e) (answers (HasFailed outside.pages) why)
 
     -- an ending, and the report behind it
-    pub ended_by : (told : Option BlockFile) → ((s : Stage) → state_by why s ≡ nothing) → Did c m told end n read.before.told outside.sink.before.told mid.told → EndsFrom mid outside.sink.after (limit_answer why) (only Report (machine_report n (last_of why) [])) result → EndsSo outside.sink (SaveWentFrom told outside setup) result
+    pub ended_by : (told : Option BlockFile) → ((s : Stage) → state_by why s ≡ removed) → Did c m told end n read.before.told outside.sink.before.told mid.told → EndsFrom mid outside.sink.after (limit_answer why) (append removed (only Report (machine_report n (last_of why) []))) result → EndsSo outside.sink (SaveWentFrom told outside setup) result
     ended_by None none did ends =
-        let text = only Report (machine_report n (last_of why) []) in
+        let text = append removed (only Report (machine_report n (last_of why) [])) in
         record { meant = limit_answer why; grown = append out.more text; so = answer_one (limit_answer why) refl; ends = ends_after outside.sink.before mid outside.sink.after (limit_answer why) out.more text result out.grew quiet ends }
     ended_by (Some file) none did ends =
         let w = from_run file did in
@@ -191,7 +205,7 @@ module _ (outside : Outside) (setup : Setup) (m n : Engine) (f : Starts setup m)
             blocks = inl (run_saved w.count file read.before.told outside.pages.after.told w.few w.moved reads);
           });
           ends = behind p (state_by why s) (last_of why) (limit_answer why) (wrote_out outside c m n begins mid result (Some file) p w.wrote) quiet
-              (subst (λ (z : Channels). EndsFrom mid outside.sink.after (limit_answer why) (append z (only Report (run_report s (last_of why) []))) result) (sym (none s)) (subst (λ (z : Channels). EndsFrom mid outside.sink.after (limit_answer why) z result) text ends));
+              (subst (λ (z : Channels). EndsFrom mid outside.sink.after (limit_answer why) (append z (only Report (run_report s (last_of why) []))) result) (sym (none s)) (subst (λ (z : Channels). EndsFrom mid outside.sink.after (limit_answer why) (append removed z) result) text ends));
         }
 
     -- a limit, and the state and the report behind it
@@ -201,7 +215,7 @@ module _ (outside : Outside) (setup : Setup) (m n : Engine) (f : Starts setup m)
         let h = halts file w in
         let p = turned c w.count in
         let s = stage_of p in
-        let counted = ap (λ (k : ℕ). only Record (saved p.place k)) w.tracks.steps ∙ limited_state why s limited in
+        let counted = ap (λ (k : ℕ). state_at p.place k) w.tracks.steps ∙ limited_state why s limited in
         let text = ap (only Report) (reported n read.before.told s (last_of why) [] w.tracks.steps w.tracks.means) in
         let all : grown ≡ append (state_by why s) (only Report (run_report s (last_of why) [])) = so.1 ∙ (λ i. append (counted i) (text i)) in
         record {
@@ -219,12 +233,12 @@ module _ (outside : Outside) (setup : Setup) (m n : Engine) (f : Starts setup m)
         let h = halts file w in
         let p = turned c w.count in
         let s = stage_of p in
-        let counted = ap (λ (k : ℕ). only Record (saved p.place k)) w.tracks.steps ∙ limited_state why s limited in
+        let counted = ap (λ (k : ℕ). saved p.place k) w.tracks.steps in
         let text = ap (only Report) (reported n read.before.told s lasts.PageFault [] w.tracks.steps w.tracks.means) in
-        let all : grown ≡ append part (only Report (run_report s lasts.PageFault [])) = wrote ∙ ap (append part) text in
+        let all : grown ≡ append (only State part) (only Report (run_report s lasts.PageFault [])) = wrote ∙ ap (append (only State part)) text in
         record {
           meant = status;
-          grown = saving_output s part lasts.PageFault;
+          grown = saving_output s (only State part) lasts.PageFault;
           so = inr (
             up rose,
             inl (record {
@@ -238,7 +252,7 @@ module _ (outside : Outside) (setup : Setup) (m n : Engine) (f : Starts setup m)
               blocks = run_saved w.count file read.before.told outside.pages.after.told w.few w.moved reads;
             }),
           );
-          ends = behind p part lasts.PageFault status (wrote_out outside c m n begins mid result (Some file) p w.wrote) quiet (subst (λ (z : Channels). EndsFrom mid outside.sink.after status z result) all ends);
+          ends = behind p (only State part) lasts.PageFault status (wrote_out outside c m n begins mid result (Some file) p w.wrote) quiet (subst (λ (z : Channels). EndsFrom mid outside.sink.after status z result) all ends);
         }
 
     unseen : (status : Status) → (status ≡ limit_answer why) ⊎ (HasFailed read × (status ≡ PageFault)) → IsRunAnswer setup.strict (HasFailed outside.pages) status
@@ -264,7 +278,7 @@ module _ (outside : Outside) (setup : Setup) (m n : Engine) (f : Starts setup m)
       record { meant = b.meant; grown = b.grown; so = inr (rose, inr (as_cut setup m f outside b.meant b.grown file b.so)); ends = b.ends }
 
   pub run_ended : (read : Change BlockFile) → outside.pages.after.told ≡ read.before.told → (e : Ending) → Did c m outside.pages.before.told (run_end.Ended e) n read.before.told outside.sink.before.told mid.told → OnlyWrote setup.limits.listed outside.sink.before.told mid.told → mid.faults.count ≡ outside.sink.before.faults.count
-      → (HasFailed read → HasFailed outside.pages) → EndsFrom mid outside.sink.after Done (only Report (machine_report n (lasts.Ending e) [])) result → EndsSo outside.sink (SaveWent outside setup) result
+      → (HasFailed read → HasFailed outside.pages) → EndsFrom mid outside.sink.after Done (append removed (only Report (machine_report n (lasts.Ending e) []))) result → EndsSo outside.sink (SaveWent outside setup) result
   run_ended read same e did out quiet up ends = ended_by read up (ap without_reads same) (run_end.Ended e) (ByEnding e) refl out quiet outside.pages.before.told (λ s. refl) did ends
 
   pub run_limited : (read : Change BlockFile) → (HasFailed read → HasFailed outside.pages) → OnlyRead read.before.told outside.pages.after.told → (end : RunEnd) (why : Why) → why_of end ≡ Some why → IsLimited why → Did c m outside.pages.before.told end n read.before.told outside.sink.before.told mid.told → OnlyWrote setup.limits.listed outside.sink.before.told mid.told → mid.faults.count ≡ outside.sink.before.faults.count

@@ -2,7 +2,7 @@
 use Rattle.std.specs.Prelude.{◌≡◌, ◌+◌, ◌⊎◌, ℕ, suc, false, List, [], ◌++◌, Option, None, Some}
 use Rattle.vax_space.specs.declared.Area.{Area}
 use Rattle.vax_outside.specs.Blocks.{BlockFile}
-use Rattle.vax_outside.specs.Channels.{Channels}
+use Rattle.vax_outside.specs.Channels.{Channels, unsaved}
 use Rattle.vax_flat.specs.Parts.{machine_at}
 use Rattle.vax_sched.specs.Due.{due}
 use Rattle.vax_sched.specs.declared.rule.Rule.{Rule}
@@ -109,10 +109,11 @@ pub record IsBroken (c : Course) (file : BlockFile) (outside : Outside) (status 
   pub answer : status ≡ PageFault
   pub wrote : grown ≡ run_output (stage_of (turned c count)) (lines_in c (all_evicted front (turned c count))) last.PageFault []
 
--- an answer of a run whose page file doesn't tell its contents; Record is empty where evictions aren't to be listed
+-- an answer of a run whose page file doesn't tell its contents; Record is empty where evictions aren't to be listed, and no state was saved
 pub record IsUnseen (c : Course) (outside : Outside) (status : Status) (grown : Channels) : Type 0 where
   pub answer : IsRunAnswer c.strict (HasFailed outside.pages) status
   pub unlisted : c.limits.listed ≡ false → grown.recorded ≡ []
+  pub unsaved : grown.saved ≡ unsaved
 
 -- it stopped by itself, or a call of the page file failed; of what it wrote little is said where the page file doesn't tell its contents
 abbrev pub WentOnFrom : Option BlockFile → Outside → Course → Status → Channels → Type 0

@@ -1,7 +1,7 @@
 -- What several programs come to that run together.
 use Rattle.std.specs.Prelude.{ℕ, suc, ◌≡◌, ◌+◌, ◌⊎◌, List, [], ◌++◌, length, take, drop, Option, None, Some, Ok, Err}
 use Rattle.vax_outside.specs.Blocks.{BlockFile}
-use Rattle.vax_outside.specs.Channels.{Channels}
+use Rattle.vax_outside.specs.Channels.{Channels, unsaved}
 use Rattle.vax_outside.specs.Directory.{Directory}
 use Rattle.vax_flat.specs.Step.{Flat}
 use Rattle.vax_image.specs.declared.Image.{Image}
@@ -134,7 +134,7 @@ IsJobsAnswer failed LineFault = ⊥
 
 -- of what they wrote little is said where the page file doesn't tell its contents
 abbrev pub JobsWent : Option BlockFile → Outside → JobsSetup → Status → Channels → Type 0
-JobsWent None outside setup status grown = IsJobsAnswer (HasFailed outside.pages) status × (grown.recorded ≡ [])
+JobsWent None outside setup status grown = IsJobsAnswer (HasFailed outside.pages) status × (grown.recorded ≡ []) × (grown.saved ≡ unsaved)
 JobsWent (Some file) outside setup status grown = AreStopped setup status grown ⊎ (HasFailed outside.pages × AreCut setup status grown)
 
 abbrev pub jobs_setup : Users → (input : Text) → List Line → JobsOptions → JobsSetup

@@ -1,8 +1,8 @@
 -- What saving a run where a limit stops it comes to.
-use Rattle.std.specs.Prelude.{◌≡◌, ◌⊎◌, ℕ, false, List, [], Option, None, Some}
+use Rattle.std.specs.Prelude.{◌≡◌, ◌⊎◌, ℕ, false, List, [], ◌++◌, Option, None, Some}
 use Rattle.vax_outside.specs.Blocks.{BlockFile}
-use Rattle.vax_outside.specs.Channels.{Channels, append, nothing, only}
-use Rattle.vax_outside.specs.declared.traits.Chan.TheVariants.{Record, Report}
+use Rattle.vax_outside.specs.Channels.{Channels, append, kept_state, only, removed}
+use Rattle.vax_outside.specs.declared.traits.Chan.TheVariants.{Report, State}
 use Rattle.vax_flat.specs.Parts.{Place, machine_at}
 use Rattle.vax_pager.specs.Poking.{OnlyRead}
 use Rattle.vax_image.specs.Start.{Start, start_areas}
@@ -31,11 +31,11 @@ use Rattle.vax_command.specs.Went.{IsCut, IsRunAnswer, Stop, last_of, run_report
 use Rattle.vax_command.specs.declared.status.Status.{Status}
 use Rattle.vax_command.specs.declared.status.Status.TheVariants.{PageFault}
 
--- on Record the bytes of the state in which a run stopped, where a limit stopped it
+-- the state in which a run stopped is kept, if a limit stopped it; if the run ended, an older state is removed
 abbrev pub state_by : Why → Stage → Channels
-state_by (ByEnding e) s = nothing
-state_by BySteps s = only Record (saved s.place s.steps)
-state_by ByTurns s = only Record (saved s.place s.steps)
+state_by (ByEnding e) s = removed
+state_by BySteps s = kept_state (saved s.place s.steps)
+state_by ByTurns s = kept_state (saved s.place s.steps)
 
 abbrev pub IsLimited : Why → Type 0
 IsLimited (ByEnding e) = ⊥
@@ -60,22 +60,22 @@ RunsSavedOrLoses setup count file outside =
     HasRunSaved setup count file outside.pages.after.told
     ⊎ (HasFailed outside.sink × MovedFirst setup.areas (before_turns setup) (after_turns setup count) (Some file) outside.pages.after.told)
 
--- It stopped by itself; the state was saved, where a limit stopped it, and the report was written.
+-- It stopped by itself; the state was kept if a limit stopped it, or an older one removed, and the report was written.
 pub record IsSaved (setup : Setup) (file : BlockFile) (outside : Outside) (status : Status) (grown : Channels) : Type 0 where
   pub stop : Stop setup
   pub answer : status ≡ status_of setup.strict (machine_at stop.at.place).core stop.why
   pub wrote : grown ≡ saving_output stop.at (state_by stop.why stop.at) (last_of stop.why)
   pub blocks : RunsSavedOrLoses setup stop.count file outside
 
--- A limit stopped it, and a call of the page file failed while the state was saved: a part of its bytes was written, and the report.
+-- A limit stopped it, and a call of the page file failed while the state was saved: a part of its bytes was written and not kept, and the report.
 pub record IsHalfSaved (setup : Setup) (file : BlockFile) (outside : Outside) (status : Status) (grown : Channels) : Type 0 where
   pub stop : Stop setup
   pub limited : IsLimited stop.why
   pub answer : status ≡ PageFault
-  pub part : Channels
-  pub rest : Channels
-  pub splits : append part rest ≡ state_by stop.why stop.at
-  pub wrote : grown ≡ saving_output stop.at part last.PageFault
+  pub part : List ℕ
+  pub rest : List ℕ
+  pub splits : part ++ rest ≡ saved stop.at.place stop.at.steps
+  pub wrote : grown ≡ saving_output stop.at (only State part) last.PageFault
   pub blocks : HasRunSaved setup stop.count file outside.pages.after.told
 
 -- one of these, or a call of the page file failed in the run; where the page file doesn't tell its contents, only which answers there may be
@@ -119,15 +119,20 @@ IsSaving outside program input schedule options status grown =
 abbrev pub HasSavedRun : Outside → Loaded → (input schedule : Text) → Options → Status → Type 0
 HasSavedRun outside program input schedule options result = EndsSo outside.sink (IsSaving outside program input schedule options) result
 
--- on Record the bytes of the state at this place
-abbrev pub state_at : Place → (steps : ℕ) → Channels
-state_at place steps = only Record (saved place steps)
+-- the bytes of the state at this place
+abbrev pub bytes_at : Place → (steps : ℕ) → List ℕ
+bytes_at place steps = saved place steps
 
--- The state of a machine that stands for this place was saved, and the report was written; or the page file failed while it was saved, behind a part of it.
+-- the state at this place is kept
+abbrev pub state_at : Place → (steps : ℕ) → Channels
+state_at place steps = kept_state (bytes_at place steps)
+
+-- The state of a machine that stands for this place was kept, and the report was written; or the page file failed after a part of it was written, and it
+-- wasn't kept.
 abbrev pub SavesAt : Change BlockFile → Engine → Place → Last → (meant : Status) → Status → Channels → Type 0
 SavesAt pages m place why meant status grown =
-    ((status ≡ meant) × (grown ≡ append (only Record (saved place m.steps)) (only Report (machine_report m why []))))
-    ⊎ (HasFailed pages × (status ≡ PageFault) × ((part : Channels) × (rest : Channels) × (append part rest ≡ only Record (saved place m.steps)) × (grown ≡ append part (only Report (machine_report m last.PageFault [])))))
+    ((status ≡ meant) × (grown ≡ append (state_at place m.steps) (only Report (machine_report m why []))))
+    ⊎ (HasFailed pages × (status ≡ PageFault) × ((part : List ℕ) × (rest : List ℕ) × (part ++ rest ≡ saved place m.steps) × (grown ≡ append (only State part) (only Report (machine_report m last.PageFault [])))))
 
 -- which answers there may be
 abbrev pub AnswersSave : Change BlockFile → (meant : Status) → Status → Channels → Type 0

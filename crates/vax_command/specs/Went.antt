@@ -2,7 +2,7 @@
 use Rattle.std.specs.Prelude.{◌≡◌, ◌+◌, ◌*◌, ◌<◌, ◌≤◌, ◌⊎◌, ℕ, suc, false, List, [], ◌++◌, map, Option, None, Some}
 use Rattle.vax_space.specs.declared.Area.{Area}
 use Rattle.vax_outside.specs.Blocks.{BlockFile}
-use Rattle.vax_outside.specs.Channels.{Channels, only, append}
+use Rattle.vax_outside.specs.Channels.{Channels, only, append, unsaved}
 use Rattle.vax_outside.specs.declared.traits.Chan.TheVariants as channel
 use Rattle.vax_flat.specs.Parts.{machine_at, units_done}
 use Rattle.vax_report.specs.Report.{report}
@@ -132,10 +132,11 @@ IsRunAnswer strict failed Unsuccessful = strict ≡ Success
 IsRunAnswer strict failed Unfinished = ⊥
 IsRunAnswer strict failed LineFault = ⊥
 
--- an answer of a run whose page file doesn't tell its contents; Record is empty where evictions aren't to be listed
+-- an answer of a run whose page file doesn't tell its contents; Record is empty where evictions aren't to be listed, and no state was saved
 pub record IsUntold (setup : Setup) (outside : Outside) (status : Status) (grown : Channels) : Type 0 where
   pub answer : IsRunAnswer setup.strict (HasFailed outside.pages) status
   pub unlisted : setup.limits.listed ≡ false → grown.recorded ≡ []
+  pub unsaved : grown.saved ≡ unsaved
 
 -- It stopped by itself, or a call of the page file failed; of what it wrote little is said where the page file doesn't tell its contents.
 

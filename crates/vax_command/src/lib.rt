@@ -23,7 +23,7 @@ pub use programs::Programs;
 pub use refusal::refuse;
 pub use resume::{load_saved, resume_run};
 pub use run::{begin, prepare, report, run_programs};
-pub use saving::{save_and_report, save_run};
+pub use saving::{remove_and_report, save_and_report, save_run};
 pub use session::hold_session;
 pub use status::{Part, Status};
 pub use trace::trace_programs;

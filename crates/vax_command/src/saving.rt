@@ -1,5 +1,7 @@
-//! Saves the states of runs where a limit stops them.
+//! Saves the states of runs that a limit stops.
 ghost use Rattle.std.specs.Prelude.{◌≡◌, ◌≤◌, ◌<◌, ◌^◌, ◌-◌, ℕ, [], false, length};
+ghost use Rattle.vax_outside.specs.Channels.{append, only, removed};
+ghost use Rattle.vax_outside.specs.declared.traits.Chan.TheVariants.{Report};
 ghost use Rattle.vax_flat.specs.Parts.{Place};
 ghost use Rattle.vax_flat.specs.Step.{Flat};
 ghost use Rattle.vax_pager.specs.Poking.{OnlyRead};
@@ -7,8 +9,8 @@ ghost use Rattle.vax_machine.specs.Machine.{Means, keeping};
 ghost use Rattle.vax_machine.specs.Meaning.{engine};
 ghost use Rattle.vax_cli.specs.Said.{AreWithin, options as said_options};
 ghost use Rattle.vax_command.specs.Around.{change, outside};
-ghost use Rattle.vax_command.specs.Ends.{Admits, EndsSo};
-ghost use Rattle.vax_command.specs.Fresh.{IsFresh};
+ghost use Rattle.vax_command.specs.Ends.{Admits, Ends, EndsSo};
+ghost use Rattle.vax_command.specs.Fresh.{IsFresh, machine_report};
 ghost use Rattle.vax_command.specs.Loaded.{AreSound, loaded_seen};
 ghost use Rattle.vax_command.specs.Reading.{file_limit};
 ghost use Rattle.vax_command.specs.Saving.{AnswersSave, HasSavedRun, SaveWent, SavesAt};
@@ -21,12 +23,12 @@ use crate::status::Status;
 use std::alloc::Global;
 use vax_cli::Options;
 use vax_machine::{Limits, Machine, RunEnd};
-use vax_outside::{PageFile, Sink};
+use vax_outside::{Failed, PageFile, Sink};
 use vax_report::Last;
 use vax_save::{SaveEnd, save};
 use vax_sched::Schedule;
 
-/// Saves the state of a machine in Record, and writes the report on it. Where a call of the page file fails, a part of the state is saved, and the report says so.
+/// Saves the state of a machine, and writes the report on it. If a call of the page file fails, a part of the state is written and not kept, and the report says so.
 pub fn save_and_report<K: Sink, F: PageFile>(
     machine: Machine,
     last: Last,
@@ -51,7 +53,18 @@ pub fn save_and_report<K: Sink, F: PageFile>(
     }
 }
 
-/// Runs a machine under a schedule, saves its state where a limit stops it, and writes the report.
+/// Removes an older state, since a run that has ended has none, and writes the report on the machine.
+pub fn remove_and_report<K: Sink>(machine: &Machine, last: Last, sink: &mut K) -> Status
+    ensures { Ends (change K.faults K.contents sink.old sink.new) Status.Done
+        (append removed (only Report (machine_report (engine machine.now) last []))) result }
+{
+    match sink.remove_state() {
+        Ok(()) => report(machine, last, &[], Status::Done, sink),
+        Err(Failed) => Status::WriteFault,
+    }
+}
+
+/// Runs a machine under a schedule, saves its state if a limit stops it, and writes the report.
 fn execute_and_save<K: Sink, F: PageFile>(
     machine: Machine,
     limits: &Limits,
@@ -80,7 +93,7 @@ fn execute_and_save<K: Sink, F: PageFile>(
 {
     let mut machine = machine;
     match machine.run(limits, schedule, pages, sink) {
-        RunEnd::Ended(ending) => report(&machine, Last::Ending(ending), &[], Status::Done, sink),
+        RunEnd::Ended(ending) => remove_and_report(&machine, Last::Ending(ending), sink),
         RunEnd::Steps => save_and_report(machine, Last::Steps, Status::Done, sink, pages),
         RunEnd::Turns => save_and_report(machine, Last::Turns, Status::Turns, sink, pages),
         RunEnd::PageFault => report(&machine, Last::PageFault, &[], Status::PageFault, sink),
@@ -88,7 +101,8 @@ fn execute_and_save<K: Sink, F: PageFile>(
     }
 }
 
-/// Runs programs with their input under a schedule, as far as the options let them go, and saves their state in Record where one of these limits stops them.
+/// Runs programs with their input under a schedule, as far as the options let them go, and saves their state if one of these limits stops them. If the run ends
+/// instead, an older state is removed.
 /// The report, which comes behind, and what the program sends are those of a run that isn't saved.
 pub fn save_run<K: Sink, F: PageFile>(
     alloc: Global,

@@ -2,8 +2,8 @@
 use Rattle.std.proofs.Common.{◌≡◌, ◌⊎◌, ◌++◌, ℕ, List, [], ◌∷◌, Option, Some, None, refl, sym, ap, subst, ◌∙◌, inl, inr}
 use Rattle.std.proofs.lemmas.List.{append-nil}
 use Rattle.vax_outside.specs.Blocks.{BlockFile}
-use Rattle.vax_outside.specs.Channels.{Channels, Grew, GrewByPrefix, append, nothing, only}
-use Rattle.vax_outside.specs.declared.traits.Chan.TheVariants.{Report}
+use Rattle.vax_outside.specs.Channels.{Channels, Grew, GrewByPrefix, append, nothing, only, removed}
+use Rattle.vax_outside.specs.declared.traits.Chan.TheVariants.{Report, State}
 use Rattle.vax_outside.proofs.Growth.{append-nothing, grew_nothing}
 use Rattle.vax_flat.specs.Parts.{Place, At, machine_at, units_done}
 use Rattle.vax_flat.specs.Step.{Flat}
@@ -34,7 +34,7 @@ use Rattle.vax_command.specs.Ends.{Ends, EndsFrom, EndsSo}
 use Rattle.vax_command.specs.Fresh.{IsFresh, machine_report}
 use Rattle.vax_command.specs.Loaded.{Loaded}
 use Rattle.vax_command.specs.Running.{IsFaulty}
-use Rattle.vax_command.specs.Saving.{AnswersSave, SavesAt}
+use Rattle.vax_command.specs.Saving.{AnswersSave, SavesAt, bytes_at}
 use Rattle.vax_command.specs.SessionWent.{broken_off, opening}
 use Rattle.vax_command.specs.Status.{refusal_growth}
 use Rattle.vax_command.specs.declared.status.Status.{Status}
@@ -111,7 +111,7 @@ module _ (outside : Outside) (lines : Change (List Text)) (g : Terms) (breaks : 
         record {
           meant = meant;
           grown = append wrote text;
-          so = inl (e, record { given = h.lines; took = h.took; asked = h.asked; cause = cause; answer = is; unrecorded = refl });
+          so = inl (e, record { given = h.lines; took = h.took; asked = h.asked; cause = cause; answer = is; unrecorded = refl; unsaved = refl });
           ends = ends_after outside.sink.before mid outside.sink.after meant wrote text result only_these.grew quiet ends;
         }
 
@@ -162,12 +162,12 @@ module _ (outside : Outside) (lines : Change (List Text)) (g : Terms) (breaks : 
       saves_here s replies now here (inr w) =
           let ended : n.ended ≡ s.machine.ending = ap (λ (flat : Flat). flat.ending) here.at.means.processor.machine in
           let steps = here.at.steps in
-          let state : state_unless n.ended (At s.machine) n.steps ≡ state_unless s.machine.ending (At s.machine) s.steps = λ i. state_unless (ended i) (At s.machine) (steps i) in
-          let part = w.2 in
+          let counted : bytes_at (At s.machine) n.steps ≡ bytes_at (At s.machine) s.steps = ap (bytes_at (At s.machine)) steps in
+          let part = w.3 in
           record {
             meant = status;
             grown = append (writes here.at.sent replies) grown;
-            so = inr (up w.0, w.1, (part.0, part.1, part.2 ∙ state, output_is s replies now here part.0 part.0 last.PageFault last.PageFault grown refl refl part.3));
+            so = inr (up w.0, w.1, sym ended ∙ w.2, (part.0, part.1, part.2 ∙ counted, output_is s replies now here (only State part.0) (only State part.0) last.PageFault last.PageFault grown refl refl part.3));
             ends = ends_after outside.sink.before mid outside.sink.after status (writes here.at.sent replies) grown result here.at.wrote quiet ends;
           }
 
@@ -418,17 +418,18 @@ module _ (outside : Outside) (lines : Change (List Text)) (g : Terms) (breaks : 
       record {
         meant = Done;
         grown = wrote;
-        so = inl (end.WriteFault, record { given = h.lines; took = h.took; asked = h.asked; cause = rose; answer = refl; unrecorded = refl });
+        so = inl (end.WriteFault, record { given = h.lines; took = h.took; asked = h.asked; cause = rose; answer = refl; unrecorded = refl; unsaved = refl });
         ends = inr (record { answer = refl; prefix = record { prefix = wrote; rest = nothing; splits = append-nothing wrote; grew = only_these.grew }; cause = rose });
       }
   lost (Some file) only_these rose h = lost_by file rose h (h.goes origin (opening start) [] (is_here file))
 
--- the state of a machine that hasn't ended was saved, or of one that has ended nothing was
+-- the state of a machine that hasn't ended was saved, or an older state removed of one that has
 pub saves_open : (ended : Option Ending) (pages : Change BlockFile) (m : Engine) (place : Place) (status : Status) (grown : Channels) → ended ≡ None → SavesAt pages m place last.Steps Done status grown → SavesBy ended pages m place status grown
-saves_open None pages m place status grown is w = w
+saves_open None pages m place status grown is (inl w) = inl w
+saves_open None pages m place status grown is (inr w) = inr (w.0, w.1, refl, w.2)
 saves_open (Some e) pages m place status grown is w = absurd (cc is)
 
-pub saves_none : (ended : Option Ending) (e : Ending) (pages : Change BlockFile) (m : Engine) (place : Place) → ended ≡ Some e → SavesBy ended pages m place Done (only Report (machine_report m (last_of ended) []))
+pub saves_none : (ended : Option Ending) (e : Ending) (pages : Change BlockFile) (m : Engine) (place : Place) → ended ≡ Some e → SavesBy ended pages m place Done (append removed (only Report (machine_report m (last_of ended) [])))
 saves_none None e pages m place is = absurd (cc is)
 saves_none (Some x) e pages m place is = inl (refl, refl)
 

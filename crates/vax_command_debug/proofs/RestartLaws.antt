@@ -1,7 +1,7 @@
 -- What a session of several runs comes to, from how each of them went.
 use Rattle.std.proofs.Common.{◌≡◌, ◌++◌, ◌+◌, ◌-◌, ◌^◌, ℕ, List, [], ◌∷◌, append_assoc, append-nil, length, length-append, Option, Some, None, refl, sym, ap, subst, ◌∙◌, inl, inr}
 use Rattle.vax_outside.specs.Blocks.{BlockFile}
-use Rattle.vax_outside.specs.Channels.{Channels, Grew, GrewByPrefix, append, nothing, only}
+use Rattle.vax_outside.specs.Channels.{Channels, Grew, GrewByPrefix, append, nothing, only, unsaved}
 use Rattle.vax_outside.specs.declared.faults.Failures.{Failures}
 use Rattle.vax_outside.specs.declared.traits.Chan.TheVariants.{Report}
 use Rattle.vax_outside.proofs.Counting.{rose_then}
@@ -209,7 +209,7 @@ module _ (g : Terms) (start : Flat) (frames : ℕ) (m : Engine) (f : IsFresh m f
         record {
           meant = Done;
           grown = append (writes o.sent o.replies) (only Report anew_line);
-          so = (z.lines.told, record { runs = b.runs ++ given_run ∷ []; asked = asked_then b.runs given_run b.asked a.restarts.asked; took = took_on b.runs b.took }, inl (inl (end.WriteFault, record { given = []; took = takes_none z.lines.told; asked = refl; cause = rose_then still c.cause; answer = refl; unrecorded = refl })));
+          so = (z.lines.told, record { runs = b.runs ++ given_run ∷ []; asked = asked_then b.runs given_run b.asked a.restarts.asked; took = took_on b.runs b.took }, inl (inl (end.WriteFault, record { given = []; took = takes_none z.lines.told; asked = refl; cause = rose_then still c.cause; answer = refl; unrecorded = refl; unsaved = refl })));
           ends = ends_after x.sink z.sink t Done (writes o.sent o.replies) (only Report anew_line) status o.grew still (inr c);
         }
     reply_cut (Some file) b =
@@ -303,7 +303,7 @@ module _ (x y : Hearing) (quiet : IsQuiet x y) (e : Seen Channels) (p : Seen Blo
 
     saves_all : (s : Session) (replies : List ℕ) → SavesHere last_seen s replies status grown → SavesHere all_seen s replies status grown
     saves_all s replies (inl q) = inl q
-    saves_all s replies (inr q) = inr (rose_then quiet.pages q.0, q.1, q.2)
+    saves_all s replies (inr q) = inr (rose_then quiet.pages q.0, q.1, q.2, q.3)
 
     saved_all : Saved last_seen last_lines start g breaks status grown → Saved all_seen (from y.lines.told all_lines) start g breaks status grown
     saved_all q = record {
@@ -330,7 +330,18 @@ module _ (x y : Hearing) (quiet : IsQuiet x y) (e : Seen Channels) (p : Seen Blo
     no_record end.WriteFault spot = refl
     no_record end.LineFault spot = refl
 
-    module _ (behind : Channels) (only_these : behind.recorded ≡ grown.recorded) where
+    none_saved : (k : SessionEnd) (spot : Spot) → (wrote_at k spot).saved ≡ unsaved
+    none_saved end.Quit spot = refl
+    none_saved end.Save spot = refl
+    none_saved end.Restart spot = refl
+    none_saved end.Read spot = refl
+    none_saved end.Lines spot = refl
+    none_saved end.Turns spot = refl
+    none_saved end.PageFault spot = refl
+    none_saved end.WriteFault spot = refl
+    none_saved end.LineFault spot = refl
+
+    module _ (behind : Channels) (only_these : behind.recorded ≡ grown.recorded) (saves_these : behind.saved ≡ grown.saved) where
       ended_untold : (k : SessionEnd) → EndedUntold k last_seen last_lines status grown → EndedUntold k all_seen (from y.lines.told all_lines) status behind
       ended_untold k q = record {
         given = q.given;
@@ -339,6 +350,7 @@ module _ (x y : Hearing) (quiet : IsQuiet x y) (e : Seen Channels) (p : Seen Blo
         cause = causes_all k q.cause;
         answer = q.answer;
         unrecorded = only_these ∙ q.unrecorded;
+        unsaved = saves_these ∙ q.unsaved;
       }
 
       told_less : (k : SessionEnd) → Ended k last_seen last_lines start g breaks status grown → EndedUntold k all_seen (from y.lines.told all_lines) status behind
@@ -349,6 +361,7 @@ module _ (x y : Hearing) (quiet : IsQuiet x y) (e : Seen Channels) (p : Seen Blo
         cause = causes_all k q.cause;
         answer = q.answer;
         unrecorded = only_these ∙ (ap (λ (c : Channels). c.recorded) q.wrote ∙ no_record k q.spot);
+        unsaved = saves_these ∙ (ap (λ (c : Channels). c.saved) q.wrote ∙ none_saved k q.spot);
       }
 
       saved_untold : SavedUntold last_seen last_lines status grown → SavedUntold all_seen (from y.lines.told all_lines) status behind
@@ -381,7 +394,7 @@ module _ (x y : Hearing) (quiet : IsQuiet x y) (e : Seen Channels) (p : Seen Blo
       record {
         meant = w.meant;
         grown = append (writes o.sent o.replies) w.grown;
-        so = (y.lines.told, record { runs = b.runs; asked = b.asked; took = b.took }, inl (run_less g start breaks w.meant w.grown (append (writes o.sent o.replies) w.grown) refl y.pages.told w.so));
+        so = (y.lines.told, record { runs = b.runs; asked = b.asked; took = b.took }, inl (run_less g start breaks w.meant w.grown (append (writes o.sent o.replies) w.grown) refl refl y.pages.told w.so));
         ends = ends_after x.sink y.sink e w.meant (writes o.sent o.replies) w.grown result o.grew quiet.sink w.ends;
       }
   went_all (Some file) g start breaks n result b w =
@@ -403,7 +416,7 @@ refused_run g start frames m f between breaks new sink faults None lines z a t s
     record {
       meant = Unfinished;
       grown = append (writes o.sent o.replies) nothing;
-      so = inl (end.Restart, record { given = a.restarts.lines; took = a.restarts.took; asked = a.restarts.asked; cause = tt; answer = refl; unrecorded = refl });
+      so = inl (end.Restart, record { given = a.restarts.lines; took = a.restarts.took; asked = a.restarts.asked; cause = tt; answer = refl; unrecorded = refl; unsaved = refl });
       ends = ends_after sink z.sink t Unfinished (writes o.sent o.replies) nothing status o.grew a.quiet.sink ends;
     }
 refused_run g start frames m f between breaks new sink faults (Some file) lines z a t status X Y Z ends =
@@ -437,7 +450,7 @@ module _ (g : Terms) (start : Flat) (frames : ℕ) (m : Engine) (f : IsFresh m f
       record {
         meant = Done;
         grown = append (writes o.sent o.replies) text;
-        so = (y.lines.told, record { runs = b.runs; asked = b.asked; took = b.took }, inr (record { many = b.many ∙ all; same = refl; answer = refl; unrecorded = refl }));
+        so = (y.lines.told, record { runs = b.runs; asked = b.asked; took = b.took }, inr (record { many = b.many ∙ all; same = refl; answer = refl; unrecorded = refl; unsaved = refl }));
         ends = ends_after x.sink y.sink t Done (writes o.sent o.replies) text status o.grew quiet.sink ends;
       }
   worn_out (Some file) b =

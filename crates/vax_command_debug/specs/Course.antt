@@ -1,8 +1,8 @@
 -- How a session with a debugger goes, and what it writes.
 use Rattle.std.specs.Prelude.{ℕ, ◌≡◌, ◌-◌, ◌^◌, ◌⊎◌, List, [], ◌∷◌, ◌++◌, codes, length, Option, None, Some}
 use Rattle.vax_outside.specs.Blocks.{BlockFile}
-use Rattle.vax_outside.specs.Channels.{Channels, append, nothing, only}
-use Rattle.vax_outside.specs.declared.traits.Chan.TheVariants.{Report}
+use Rattle.vax_outside.specs.Channels.{Channels, append, nothing, only, removed, unsaved}
+use Rattle.vax_outside.specs.declared.traits.Chan.TheVariants.{Report, State}
 use Rattle.vax_flat.specs.Parts.{Place, At, machine_at, units_done}
 use Rattle.vax_flat.specs.Step.{Flat}
 use Rattle.vax_flat.specs.declared.Ending.{Ending}
@@ -24,7 +24,7 @@ use Rattle.vax_debug_session.specs.declared.SessionEnd.TheVariants as end
 use Rattle.vax_cli.specs.Words.{Text}
 use Rattle.vax_command.specs.Around.{Change, HasFailed, Outside}
 use Rattle.vax_command.specs.Fresh.{machine_report}
-use Rattle.vax_command.specs.Saving.{AnswersSave, state_at}
+use Rattle.vax_command.specs.Saving.{AnswersSave, state_at, bytes_at}
 use Rattle.vax_command.specs.SessionWent.{broken_off, opening}
 use Rattle.vax_command.specs.declared.status.Status.{Status}
 use Rattle.vax_command.specs.declared.status.Status.TheVariants.{Done, LineFault, PageFault, Turns, Unfinished}
@@ -142,6 +142,7 @@ pub record EndedUntold (e : SessionEnd) (outside : Outside) (lines : Change (Lis
   pub cause : Causes e outside lines
   pub answer : status ≡ answer_of e
   pub unrecorded : grown.recorded ≡ []
+  pub unsaved : grown.saved ≡ unsaved
 
 -- what a session has written in the end whose state was saved: the guest's output and the replies, the state, and the report
 abbrev pub saving_output : Session → (replies : List ℕ) → (state : Channels) → Last → Channels
@@ -149,23 +150,23 @@ saving_output s replies state why =
     append (writes s.machine.output replies)
     (append state (only Report (report s.machine.core why s.steps (units_done (At s.machine)) s.machine.taken [])))
 
--- what is put on Record: the state, unless the machine has ended
+-- the state is kept, or an older one removed if the machine has ended
 abbrev pub state_unless : Option Ending → Place → (steps : ℕ) → Channels
 state_unless None place steps = state_at place steps
-state_unless (Some e) place steps = nothing
+state_unless (Some e) place steps = removed
 
--- The state of a machine was saved that stands for this place and has ended so or hasn't, and the report was written; or a call of the page file failed
--- behind a part of the state.
+-- The state of a machine that stands for this place was saved so, and the report was written; or the machine hasn't ended, and a call of the page file
+-- failed after a part of the state was written, which wasn't kept.
 abbrev pub SavesBy : Option Ending → Change BlockFile → Engine → Place → Status → Channels → Type 0
 SavesBy ended pages m place status grown =
     ((status ≡ Done) × (grown ≡ append (state_unless ended place m.steps) (only Report (machine_report m (last_of ended) []))))
-    ⊎ (HasFailed pages × (status ≡ PageFault) × ((part : Channels) × (rest : Channels) × (append part rest ≡ state_unless ended place m.steps) × (grown ≡ append part (only Report (machine_report m last.PageFault [])))))
+    ⊎ (HasFailed pages × (status ≡ PageFault) × (ended ≡ None) × ((part : List ℕ) × (rest : List ℕ) × (part ++ rest ≡ bytes_at place m.steps) × (grown ≡ append (only State part) (only Report (machine_report m last.PageFault [])))))
 
 -- so was the state between two lines
 abbrev pub SavesHere : Outside → Session → (replies : List ℕ) → Status → Channels → Type 0
 SavesHere outside s replies status grown =
     ((status ≡ Done) × (grown ≡ saving_output s replies (state_unless s.machine.ending (At s.machine) s.steps) (last_of s.machine.ending)))
-    ⊎ (HasFailed outside.pages × (status ≡ PageFault) × ((part : Channels) × (rest : Channels) × (append part rest ≡ state_unless s.machine.ending (At s.machine) s.steps) × (grown ≡ saving_output s replies part last.PageFault)))
+    ⊎ (HasFailed outside.pages × (status ≡ PageFault) × (s.machine.ending ≡ None) × ((part : List ℕ) × (rest : List ℕ) × (part ++ rest ≡ bytes_at (At s.machine) s.steps) × (grown ≡ saving_output s replies (only State part) last.PageFault)))
 
 -- Lines were taken, each with pages, and the last of them asks for the state to be saved: it is, as it stands behind all of them.
 pub record Saved (outside : Outside) (lines : Change (List Text)) (start : Flat) (g : Terms) (breaks : Plan) (status : Status) (grown : Channels) : Type 0 where
@@ -241,6 +242,7 @@ pub record IsWornOutUntold (runs : List (List Exchange)) (now after : Option (Li
   pub same : after ≡ now
   pub answer : status ≡ Done
   pub unrecorded : grown.recorded ≡ []
+  pub unsaved : grown.saved ≡ unsaved
 
 -- It went so: a last run ended the session, and behind each before it the program began anew. The output of all is written, one behind the other.
 abbrev pub WentFrom : Option BlockFile → Outside → Change (List Text) → Flat → Terms → Status → Channels → Type 0

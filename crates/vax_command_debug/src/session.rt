@@ -23,7 +23,9 @@ ghost use Rattle.vax_command_debug.specs.Restarting.{GoesAnew, IsReadyAnew, IsRe
 
 use std::alloc::Global;
 use vax_cli::Options;
-use vax_command::{Programs, Status, begin, prepare, refuse, report, save_and_report};
+use vax_command::{
+    Programs, Status, begin, prepare, refuse, remove_and_report, report, save_and_report,
+};
 use vax_debug_names::Legend;
 use vax_debug_session::{Plan, SessionEnd, Setting, hold};
 use vax_flat::Ending;
@@ -65,7 +67,7 @@ fn report_here<K: Sink>(machine: &Machine, meant: Status, sink: &mut K) -> Statu
     report(machine, last_of(machine.ended()), &[], meant, sink)
 }
 
-/// Saves the state of a machine that stands between two lines, unless it has ended, and writes the report on it.
+/// Saves the state of a machine that stands between two lines, or removes an older one if it has ended, and writes the report on it.
 fn save_here<K: Sink, F: PageFile>(machine: Machine, sink: &mut K, pages: &mut F) -> Status
     ensures saves { (place : Place) → Means (engine machine) (F.contents pages.old) place →
         EndsSo (change K.faults K.contents sink.old sink.new)
@@ -77,7 +79,7 @@ fn save_here<K: Sink, F: PageFile>(machine: Machine, sink: &mut K, pages: &mut F
 {
     match machine.ended() {
         None => save_and_report(machine, Last::Steps, Status::Done, sink, pages),
-        Some(_) => report_here(&machine, Status::Done, sink),
+        Some(_) => remove_and_report(&machine, last_of(machine.ended()), sink),
     }
 }
 

@@ -18,7 +18,7 @@ use anyhow::{Context, Result, bail};
 use std::alloc::Global;
 use std::io::Print;
 use vax_input::MemLines;
-use vax_outside::{Chan, MemSink};
+use vax_outside::{Chan, MemSink, StateFile};
 use vax_top::vax_main;
 
 /// Shows what a channel was written: a text as it is, and few bytes, or their number.
@@ -67,7 +67,22 @@ impl Left {
     }
 }
 
-/// Shows what a call left: Out and Report, Record where there is one, how many blocks were written where these are counted, and its exit status.
+/// Shows what became of a saved state, if a call has written one or removed one.
+fn show_state<R: Print>(rt: &R, sink: &MemSink) -> Result<()> {
+    let bytes = sink.bytes(Chan::State);
+    match sink.state_file() {
+        StateFile::Kept => rt.println("state:")?,
+        StateFile::Removed => rt.println("an older state is removed")?,
+        StateFile::Untouched if bytes.is_empty() => {}
+        StateFile::Untouched => rt.println("a part of a state, not kept:")?,
+    }
+    if bytes.is_empty() {
+        return Ok(());
+    }
+    show_channel(rt, bytes)
+}
+
+/// Shows what a call left: Out and Report, Record where there is one, a saved state, how many blocks were written where these are counted, and its exit status.
 fn show_left<R: Print>(rt: &R, left: &Left, is_counted: bool) -> Result<()> {
     show_channel(rt, left.out())?;
     show_channel(rt, left.report())?;
@@ -75,6 +90,7 @@ fn show_left<R: Print>(rt: &R, left: &Left, is_counted: bool) -> Result<()> {
         rt.println("record:")?;
         show_channel(rt, left.record())?;
     }
+    show_state(rt, &left.sink)?;
     let count = left.pages.blocks.writes().len();
     if is_counted && count > 0 {
         println!(rt; "blocks written: {count}")?;

@@ -3,3 +3,4 @@ mod Loops
 mod Filling
 mod SavingLaws
 mod RestoringLaws
+pub mod Parting

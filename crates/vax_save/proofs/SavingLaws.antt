@@ -20,7 +20,7 @@ use Rattle.vax_machine.specs.Machine.{Means, keeping}
 use Rattle.vax_machine.specs.declared.engine.Engine.{Engine}
 use Rattle.vax_save.specs.Saved.{area_field, areas_field, content_field, end_mark, heading, input_field, is_blank, longword, memory_field, page_field, pages_field, registers_field, saved}
 use Rattle.vax_outside.specs.Channels.{Channels, Grew, GrewByPrefix, only}
-use Rattle.vax_outside.specs.declared.traits.Chan.TheVariants.{Record}
+use Rattle.vax_outside.specs.declared.traits.Chan.TheVariants.{State}
 use Rattle.vax_save.specs.Stream.{Cuts, Leaves, Puts, Stream, stream}
 use Rattle.vax_save.proofs.Streaming.{cuts_next, leaves_next, leaves_same, whole_cut, whole_lost, whole_put}
 use Rattle.vax_save.specs.Saving.{IsKept, front_fields}
@@ -211,16 +211,16 @@ extent_as a b i first pages e h = subst (λ (z : List Area). flat_map pages_of (
 -- the whole state, from the beginning
 
 pub state_cut : (m : Engine) (file : Option BlockFile) (place : Place) → Means m file place → (held : List ℕ) (old now : Option Channels) → held ≡ [] → Cuts (front_fields m ++ (pages_field (machine_at place).memory (keeping m).areas ++ longword end_mark)) (stream old held) now
-    → GrewByPrefix old now (only Record (saved place m.steps))
+    → GrewByPrefix old now (only State (saved place m.steps))
 state_cut m file place means held old now none p =
     whole_cut (saved place m.steps) held old now none (subst (λ (z : List ℕ). Cuts z (stream old held) now) (sym (saved_is m file place means)) p)
 
 pub state_put : (m : Engine) (file : Option BlockFile) (place : Place) → Means m file place → (held : List ℕ) (old now : Option Channels) (s : Stream) → held ≡ [] → Puts (front_fields m ++ (pages_field (machine_at place).memory (keeping m).areas ++ longword end_mark)) (stream old held) s
-    → Grew s.channels now (only Record s.held) → Grew old now (only Record (saved place m.steps))
+    → Grew s.channels now (only State s.held) → Grew old now (only State (saved place m.steps))
 state_put m file place means held old now s none p grew =
     whole_put (saved place m.steps) held old now s none (subst (λ (z : List ℕ). Puts z (stream old held) s) (sym (saved_is m file place means)) p) grew
 
 pub state_lost : (m : Engine) (file : Option BlockFile) (place : Place) → Means m file place → (held : List ℕ) (old now : Option Channels) (s : Stream) → held ≡ [] → Puts (front_fields m ++ (pages_field (machine_at place).memory (keeping m).areas ++ longword end_mark)) (stream old held) s
-    → GrewByPrefix s.channels now (only Record s.held) → GrewByPrefix old now (only Record (saved place m.steps))
+    → GrewByPrefix s.channels now (only State s.held) → GrewByPrefix old now (only State (saved place m.steps))
 state_lost m file place means held old now s none p grew =
     whole_lost (saved place m.steps) held old now s none (subst (λ (z : List ℕ). Puts z (stream old held) s) (sym (saved_is m file place means)) p) grew

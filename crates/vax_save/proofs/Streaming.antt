@@ -1,20 +1,20 @@
--- Bytes on their way to Record.
+-- Bytes on their way to State.
 use Rattle.std.proofs.Common.{◌≡◌, ℕ, List, [], ◌++◌, append_assoc, append-nil, Option, refl, sym, ap, subst, ◌∙◌}
-use Rattle.vax_outside.specs.Channels.{Channels, Grew, GrewByPrefix, nothing, only}
-use Rattle.vax_outside.specs.declared.traits.Chan.TheVariants.{Record}
-use Rattle.vax_outside.proofs.Growth.{append-nothing, grew_nothing, prefix_stays, prefix_within, record_grew}
-use Rattle.vax_save.specs.Stream.{Cuts, HasCut, HasPut, IsBetween, Leaves, Puts, Records, Stream, stream}
+use Rattle.vax_outside.specs.Channels.{Channels, Grew, GrewByPrefix, kept, kept_state, only}
+use Rattle.vax_outside.specs.declared.traits.Chan.TheVariants.{State}
+use Rattle.vax_outside.proofs.Growth.{grew_nothing, prefix_stays, prefix_within, grew_only, grew_more}
+use Rattle.vax_save.specs.Stream.{Cuts, HasCut, HasPut, IsBetween, Leaves, HasBegun, HasWritten, Puts, Stream, stream}
 
 -- nothing was written, and all is still to come
 pub begun : (whole : List ℕ) (old : Option Channels) → IsBetween whole old (stream old []) (whole ++ [])
 begun whole old = record { sent = []; is = append-nil whole; wrote = grew_nothing old }
 
 -- what was held back was written
-pub written : (held new : List ℕ) (mid now : Option Channels) → new ≡ [] → Grew mid now (only Record held) → Puts [] (stream mid held) (stream now new)
+pub written : (held new : List ℕ) (mid now : Option Channels) → new ≡ [] → Grew mid now (only State held) → Puts [] (stream mid held) (stream now new)
 written held new mid now n g whole rest first b = record {
   sent = b.sent ++ held;
   is = append_assoc b.sent held (new ++ rest) ∙ (ap (λ (z : List ℕ). b.sent ++ (held ++ (z ++ rest))) n ∙ b.is);
-  wrote = record_grew first mid now b.sent held b.wrote g;
+  wrote = grew_only first mid now State b.sent held b.wrote g;
 }
 
 -- more is held back
@@ -26,25 +26,25 @@ held_more held new bytes now n whole rest first b = record {
 }
 
 -- bytes were written behind all that was held back
-pub passed : (held bytes : List ℕ) (mid now : Option Channels) → held ≡ [] → Grew mid now (only Record bytes) → Puts bytes (stream mid held) (stream now held)
+pub passed : (held bytes : List ℕ) (mid now : Option Channels) → held ≡ [] → Grew mid now (only State bytes) → Puts bytes (stream mid held) (stream now held)
 passed held bytes mid now none g whole rest first b = record {
   sent = b.sent ++ bytes;
   is = append_assoc b.sent bytes (held ++ rest) ∙ (ap (λ (z : List ℕ). b.sent ++ (bytes ++ (z ++ rest))) none ∙ (ap (λ (z : List ℕ). b.sent ++ (z ++ (bytes ++ rest))) (sym none) ∙ b.is));
-  wrote = record_grew first mid now b.sent bytes b.wrote g;
+  wrote = grew_only first mid now State b.sent bytes b.wrote g;
 }
 
 -- a write of what was held back failed
-pub lost : (held bytes : List ℕ) (mid now : Option Channels) → GrewByPrefix mid now (only Record held) → Cuts bytes (stream mid held) now
-lost held bytes mid now g whole rest first b = prefix_within first mid now Record b.sent held (bytes ++ rest) whole b.is b.wrote g
+pub lost : (held bytes : List ℕ) (mid now : Option Channels) → GrewByPrefix mid now (only State held) → Cuts bytes (stream mid held) now
+lost held bytes mid now g whole rest first b = prefix_within first mid now State b.sent held (bytes ++ rest) whole b.is b.wrote g
 
 -- a write behind all that was held back failed
-pub passed_short : (held bytes : List ℕ) (mid now : Option Channels) → held ≡ [] → GrewByPrefix mid now (only Record bytes) → Cuts bytes (stream mid held) now
+pub passed_short : (held bytes : List ℕ) (mid now : Option Channels) → held ≡ [] → GrewByPrefix mid now (only State bytes) → Cuts bytes (stream mid held) now
 passed_short held bytes mid now none g whole rest first b =
-    prefix_within first mid now Record b.sent bytes rest whole (ap (λ (z : List ℕ). b.sent ++ (z ++ (bytes ++ rest))) (sym none) ∙ b.is) b.wrote g
+    prefix_within first mid now State b.sent bytes rest whole (ap (λ (z : List ℕ). b.sent ++ (z ++ (bytes ++ rest))) (sym none) ∙ b.is) b.wrote g
 
 -- nothing more is written
 pub given_up : (bytes : List ℕ) (s : Stream) → Cuts bytes s s.channels
-given_up bytes s whole rest first b = prefix_stays first s.channels s.channels Record b.sent (s.held ++ (bytes ++ rest)) whole b.is b.wrote refl
+given_up bytes s whole rest first b = prefix_stays first s.channels s.channels State b.sent (s.held ++ (bytes ++ rest)) whole b.is b.wrote refl
 
 -- one behind the other
 pub puts_then : (a b : List ℕ) (s t u : Stream) → Puts a s t → Puts b t u → Puts (a ++ b) s u
@@ -69,12 +69,12 @@ cuts_next all field left s t now p q whole rest first h =
     q whole (left ++ rest) first (subst (IsBetween whole first t) (append_assoc field left rest) (p whole rest first h))
 
 -- all was written
-pub finished : (whole : List ℕ) (old mid now : Option Channels) (held : List ℕ) → IsBetween whole old (stream mid held) [] → Grew mid now (only Record held) → Grew old now (only Record whole)
+pub finished : (whole : List ℕ) (old mid now : Option Channels) (held : List ℕ) → IsBetween whole old (stream mid held) [] → Grew mid now (only State held) → Grew old now (only State whole)
 finished whole old mid now held b g =
-    subst (λ (z : List ℕ). Grew old now (only Record z)) (ap (λ (z : List ℕ). b.sent ++ z) (sym (append-nil held)) ∙ b.is) (record_grew old mid now b.sent held b.wrote g)
+    subst (λ (z : List ℕ). Grew old now (only State z)) (ap (λ (z : List ℕ). b.sent ++ z) (sym (append-nil held)) ∙ b.is) (grew_only old mid now State b.sent held b.wrote g)
 
-pub cut_short : (whole : List ℕ) (old mid now : Option Channels) (held : List ℕ) → IsBetween whole old (stream mid held) [] → GrewByPrefix mid now (only Record held) → GrewByPrefix old now (only Record whole)
-cut_short whole old mid now held b g = prefix_within old mid now Record b.sent held [] whole b.is b.wrote g
+pub cut_short : (whole : List ℕ) (old mid now : Option Channels) (held : List ℕ) → IsBetween whole old (stream mid held) [] → GrewByPrefix mid now (only State held) → GrewByPrefix old now (only State whole)
+cut_short whole old mid now held b g = prefix_within old mid now State b.sent held [] whole b.is b.wrote g
 
 -- the first of bytes was put, and the others are left
 pub leaves_first : (a b : List ℕ) (s t : Stream) → Puts a s t → Leaves (a ++ b) b s t
@@ -88,13 +88,13 @@ leaves_same a s whole rest first h = h
 start_of : (whole held : List ℕ) (old : Option Channels) → held ≡ [] → IsBetween whole old (stream old held) (whole ++ [])
 start_of whole held old none = subst (λ (z : List ℕ). IsBetween whole old (stream old z) (whole ++ [])) (sym none) (begun whole old)
 
-pub whole_cut : (whole held : List ℕ) (old now : Option Channels) → held ≡ [] → Cuts whole (stream old held) now → GrewByPrefix old now (only Record whole)
+pub whole_cut : (whole held : List ℕ) (old now : Option Channels) → held ≡ [] → Cuts whole (stream old held) now → GrewByPrefix old now (only State whole)
 whole_cut whole held old now none p = p whole [] old (start_of whole held old none)
 
-pub whole_put : (whole held : List ℕ) (old now : Option Channels) (s : Stream) → held ≡ [] → Puts whole (stream old held) s → Grew s.channels now (only Record s.held) → Grew old now (only Record whole)
+pub whole_put : (whole held : List ℕ) (old now : Option Channels) (s : Stream) → held ≡ [] → Puts whole (stream old held) s → Grew s.channels now (only State s.held) → Grew old now (only State whole)
 whole_put whole held old now s none p g = finished whole old s.channels now s.held (p whole [] old (start_of whole held old none)) g
 
-pub whole_lost : (whole held : List ℕ) (old now : Option Channels) (s : Stream) → held ≡ [] → Puts whole (stream old held) s → GrewByPrefix s.channels now (only Record s.held) → GrewByPrefix old now (only Record whole)
+pub whole_lost : (whole held : List ℕ) (old now : Option Channels) (s : Stream) → held ≡ [] → Puts whole (stream old held) s → GrewByPrefix s.channels now (only State s.held) → GrewByPrefix old now (only State whole)
 whole_lost whole held old now s none p g = cut_short whole old s.channels now s.held (p whole [] old (start_of whole held old none)) g
 
 -- some bytes, whatever they are
@@ -108,13 +108,19 @@ put_more s t u a b = (a.0 ++ b.0, puts_then a.0 b.0 s t u a.1 b.1)
 pub cut_more : (s t : Stream) (now : Option Channels) → HasPut s t → HasCut t now → HasCut s now
 cut_more s t now a b = (a.0 ++ b.0, cuts_then a.0 b.0 s t now a.1 b.1)
 
-pub records_cut : (held : List ℕ) (old now : Option Channels) → held ≡ [] → HasCut (stream old held) now → Records old now
-records_cut held old now none h = (h.0, whole_cut h.0 held old now none h.1)
+pub begun_cut : (held : List ℕ) (old now : Option Channels) → held ≡ [] → HasCut (stream old held) now → HasBegun old now
+begun_cut held old now none h = (h.0, whole_cut h.0 held old now none h.1)
 
-pub records_lost : (held : List ℕ) (old now : Option Channels) (s : Stream) → held ≡ [] → HasPut (stream old held) s → GrewByPrefix s.channels now (only Record s.held) → Records old now
-records_lost held old now s none h g = (h.0, whole_lost h.0 held old now s none h.1 g)
+pub begun_lost : (held : List ℕ) (old now : Option Channels) (s : Stream) → held ≡ [] → HasPut (stream old held) s → GrewByPrefix s.channels now (only State s.held) → HasBegun old now
+begun_lost held old now s none h g = (h.0, whole_lost h.0 held old now s none h.1 g)
 
-pub records_put : (held : List ℕ) (old now : Option Channels) (s : Stream) → held ≡ [] → HasPut (stream old held) s → Grew s.channels now (only Record s.held) → Records old now
-records_put held old now s none h g =
-    let whole = only Record h.0 in
-    (h.0, record { prefix = whole; rest = nothing; splits = append-nothing whole; grew = whole_put h.0 held old now s none h.1 g })
+pub written_put : (held : List ℕ) (old now : Option Channels) (s : Stream) → held ≡ [] → HasPut (stream old held) s → Grew s.channels now (only State s.held) → HasWritten old now
+written_put held old now s none h g = (h.0, whole_put h.0 held old now s none h.1 g)
+
+-- the state's file
+
+pub kept_whole : (old mid now : Option Channels) (bytes : List ℕ) → Grew old mid (only State bytes) → Grew mid now kept → Grew old now (kept_state bytes)
+kept_whole old mid now bytes p q = grew_more old mid now (only State bytes) kept p q
+
+pub kept_not : (old mid now : Option Channels) (bytes : List ℕ) → Grew old mid (only State bytes) → now ≡ mid → GrewByPrefix old now (only State bytes)
+kept_not old mid now bytes p same = prefix_stays old mid now State bytes [] bytes (append-nil bytes) p same

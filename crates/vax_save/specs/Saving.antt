@@ -1,6 +1,8 @@
 -- What saving does to a machine, its page file and the channels.
 use Rattle.std.specs.Prelude.{◌≡◌, ℕ, Bool, true, false, Option, Result, Ok, Err, List, ◌++◌, length}
 use Rattle.vax_outside.specs.Blocks.{BlockFile}
+use Rattle.vax_outside.specs.Channels.{Channels, Grew, GrewByPrefix, kept_state, only}
+use Rattle.vax_outside.specs.declared.traits.Chan.TheVariants.{State}
 use Rattle.vax_pager.specs.Meaning.{pages}
 use Rattle.vax_pager.specs.Poking.{OnlyRead}
 use Rattle.vax_machine.specs.Machine.{KeepsPlace, keeping}
@@ -41,6 +43,16 @@ abbrev pub has_write_fault : SaveEnd → Bool
 has_write_fault Written = false
 has_write_fault PageFault = false
 has_write_fault WriteFault = true
+
+-- these bytes were written and kept as the state, or a prefix of them was written and nothing was kept
+abbrev pub Saves : SaveEnd → List ℕ → Option Channels → Option Channels → Type 0
+Saves Written bytes old now = Grew old now (kept_state bytes)
+Saves PageFault bytes old now = GrewByPrefix old now (only State bytes)
+Saves WriteFault bytes old now = GrewByPrefix old now (only State bytes)
+
+-- so it went with some bytes, whatever they are
+abbrev pub HasSaved : SaveEnd → Option Channels → Option Channels → Type 0
+HasSaved end old now = (bytes : List ℕ) × Saves end bytes old now
 
 -- the fields of a machine that stand before its input's bytes
 abbrev pub first_fields : Engine → List ℕ

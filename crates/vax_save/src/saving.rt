@@ -9,8 +9,8 @@ ghost use Rattle.vax_flat.specs.Parts.{Place, machine_at};
 ghost use Rattle.vax_machine.specs.Machine.{Means, keeping};
 ghost use Rattle.vax_machine.specs.Meaning.{engine};
 ghost use Rattle.vax_save.specs.Saved.{area_field, areas_field, content_field, longword, page_field, pages_field, registers_field, saved};
-ghost use Rattle.vax_save.specs.Saving.{IsKept, first_fields, front_fields, has_page_fault, has_write_fault, is_page_fault, is_write_fault};
-ghost use Rattle.vax_save.specs.Stream.{Cuts, HasCut, HasPut, Puts, Records, stream};
+ghost use Rattle.vax_save.specs.Saving.{HasSaved, IsKept, Saves, first_fields, front_fields, has_page_fault, has_write_fault, is_page_fault, is_write_fault};
+ghost use Rattle.vax_save.specs.Stream.{Cuts, HasBegun, HasCut, HasPut, HasWritten, Puts, stream};
 
 use crate::fault::Fault;
 use crate::fields::{Fields, push, push_area, push_core, push_longword, push_quadword, push_word};
@@ -27,11 +27,11 @@ use vax_word::Core;
 /// How saving came out.
 #[derive(Clone, Copy, PartialEq, Eq)]
 pub enum SaveEnd {
-    /// The whole state was written.
+    /// The whole state was written, and is kept.
     Written,
     /// A call of the page file failed.
     PageFault,
-    /// A write failed.
+    /// A write failed, or the call that keeps the state.
     WriteFault,
 }
 
@@ -283,12 +283,13 @@ fn write_state<F: PageFile, K: Sink>(
     ensures ok { OnOk result ((place : Place)
         → Means (engine machine.old) (F.contents file.old) place
         → Grew (K.contents sink.old) (K.contents sink.new)
-        (only Chan.Record (saved place (engine machine.old).steps))) }
+        (only Chan.State (saved place (engine machine.old).steps))) }
     ensures cut { OnErr result ((place : Place)
         → Means (engine machine.old) (F.contents file.old) place
         → GrewByPrefix (K.contents sink.old) (K.contents sink.new)
-        (only Chan.Record (saved place (engine machine.old).steps))) }
-    ensures records { Records (K.contents sink.old) (K.contents sink.new) }
+        (only Chan.State (saved place (engine machine.old).steps))) }
+    ensures some { OnOk result (HasWritten (K.contents sink.old) (K.contents sink.new)) }
+    ensures some_cut { OnErr result (HasBegun (K.contents sink.old) (K.contents sink.new)) }
     ensures file { CountsFailure (is_page_fault result) (F.faults file.old) (F.faults file.new) }
     ensures sink { CountsFailure (is_write_fault result) (K.faults sink.old) (K.faults sink.new) }
 {
@@ -300,24 +301,24 @@ fn write_state<F: PageFile, K: Sink>(
     Ok(())
 }
 
-/// Appends the bytes of a machine's state to Record: where the flat machine for which it stands is, with the string instruction that is open, and how
-/// many steps were completed. The machine is as before. It takes no memory. After a failure a prefix of the bytes was written.
+/// Saves a machine's state: where the flat machine is for which it stands, with the string instruction that is open, and how many steps were completed. Its
+/// bytes are written to State, and then they are kept as the state's file. The machine is as before. It takes no memory. After a failure a prefix of the bytes
+/// was written, and nothing was kept.
 pub fn save<F: PageFile, K: Sink>(machine: &mut Machine, file: &mut F, sink: &mut K) -> SaveEnd
     ensures kept { IsKept (engine machine.old) (F.contents file.old) (engine machine.new)
         (F.contents file.new) }
-    ensures written { result ≡ SaveEnd.Written → (place : Place)
-        → Means (engine machine.old) (F.contents file.old) place
-        → Grew (K.contents sink.old) (K.contents sink.new)
-        (only Chan.Record (saved place (engine machine.old).steps)) }
-    ensures part { (place : Place) → Means (engine machine.old) (F.contents file.old) place
-        → GrewByPrefix (K.contents sink.old) (K.contents sink.new)
-        (only Chan.Record (saved place (engine machine.old).steps)) }
-    ensures records { Records (K.contents sink.old) (K.contents sink.new) }
+    ensures saves { (place : Place) → Means (engine machine.old) (F.contents file.old) place
+        → Saves result (saved place (engine machine.old).steps)
+        (K.contents sink.old) (K.contents sink.new) }
+    ensures some { HasSaved result (K.contents sink.old) (K.contents sink.new) }
     ensures file { CountsFailure (has_page_fault result) (F.faults file.old) (F.faults file.new) }
     ensures sink { CountsFailure (has_write_fault result) (K.faults sink.old) (K.faults sink.new) }
 {
     match write_state(machine, file, sink) {
-        Ok(()) => SaveEnd::Written,
+        Ok(()) => match sink.keep_state() {
+            Ok(()) => SaveEnd::Written,
+            Err(Failed) => SaveEnd::WriteFault,
+        },
         Err(Fault::Page) => SaveEnd::PageFault,
         Err(Fault::Write) => SaveEnd::WriteFault,
     }

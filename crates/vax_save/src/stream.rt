@@ -1,4 +1,4 @@
-//! Bytes on their way to Record, held back until there are many.
+//! Bytes on their way to State, held back until there are many.
 ghost use Rattle.std.specs.Prelude.{◌≡◌, ◌+◌, ◌≤◌, ◌⊎◌, [], length, OnErr, OnOk, is_err};
 ghost use Rattle.vax_outside.specs.Channels.{Grew, GrewByPrefix, only};
 ghost use Rattle.vax_outside.specs.Faults.{CountsFailure};
@@ -19,13 +19,13 @@ fn make_room<K: Sink>(held: &mut Held, sink: &mut K, len: usize) -> Result<(), F
         (stream (K.contents sink.new) held.new.items)) }
     ensures room { OnOk result ((length held.new.items + len ≤ 4096) ⊎ (held.new.items ≡ [])) }
     ensures cut { OnErr result (GrewByPrefix (K.contents sink.old) (K.contents sink.new)
-        (only Chan.Record held.old.items)) }
+        (only Chan.State held.old.items)) }
     ensures counts { CountsFailure (is_err result) (K.faults sink.old) (K.faults sink.new) }
 {
     if len <= HELD - held.len() {
         return Ok(());
     }
-    put_all(sink, Chan::Record, held)?;
+    put_all(sink, Chan::State, held)?;
     held.clear();
     Ok(())
 }
@@ -41,17 +41,17 @@ pub(crate) fn put<K: Sink>(held: &mut Held, sink: &mut K, bytes: &[u8]) -> Resul
     make_room(held, sink, bytes.len())?;
     match held.try_extend_from_slice(bytes) {
         Ok(()) => Ok(()),
-        Err(_) => put_all(sink, Chan::Record, bytes),
+        Err(_) => put_all(sink, Chan::State, bytes),
     }
 }
 
 /// Writes the bytes that are held back.
 pub(crate) fn finish<K: Sink>(held: &Held, sink: &mut K) -> Result<(), Failed>
     ensures ok { OnOk result (Grew (K.contents sink.old) (K.contents sink.new)
-        (only Chan.Record held.now.items)) }
+        (only Chan.State held.now.items)) }
     ensures cut { OnErr result (GrewByPrefix (K.contents sink.old) (K.contents sink.new)
-        (only Chan.Record held.now.items)) }
+        (only Chan.State held.now.items)) }
     ensures counts { CountsFailure (is_err result) (K.faults sink.old) (K.faults sink.new) }
 {
-    put_all(sink, Chan::Record, held)
+    put_all(sink, Chan::State, held)
 }

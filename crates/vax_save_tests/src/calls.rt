@@ -2,7 +2,7 @@
 use std::alloc::{AllocError, Global};
 use std::test::Fail;
 use vax_input::MemLines;
-use vax_outside::{Chan, Fail as Failing, MemFiles, MemPages, MemSink};
+use vax_outside::{Chan, Fail as Failing, MemFiles, MemPages, MemSink, StateFile};
 use vax_top::vax_main;
 
 /// Overwrites itself with zeros, in two parts of 512 bytes each.
@@ -49,7 +49,24 @@ impl Left {
     }
 
     pub(crate) fn state(&self) -> &[u8] {
-        self.sink.bytes(Chan::Record)
+        self.sink.bytes(Chan::State)
+    }
+
+    pub(crate) fn file(&self) -> StateFile {
+        self.sink.state_file()
+    }
+}
+
+/// The calls of the page file and of the channels that are to fail.
+#[derive(Clone, Copy)]
+struct Fails {
+    page: Option<Failing>,
+    sink: Option<Failing>,
+}
+
+impl Fails {
+    fn of_pages(page: Option<Failing>) -> Fails {
+        Fails { page, sink: None }
     }
 }
 
@@ -61,13 +78,12 @@ fn listed(alloc: Global, fail: Option<Failing>) -> Result<Vec<Failing>, AllocErr
     Ok(fails)
 }
 
-/// Calls the program with the words of a line, between single blanks, over these files and one more, with a call of the page file that is to fail and these
-/// lines of standard input.
+/// Calls the program with the words of a line, between single blanks, over these files and one more, with calls that are to fail and these lines of standard input.
 fn call_with(
     alloc: Global,
     line: &str,
     file: (&str, &[u8]),
-    page: Option<Failing>,
+    fails: Fails,
     typed: &[u8],
 ) -> Result<Left, Fail> {
     let mut all = Vec::new(alloc);
@@ -87,8 +103,13 @@ fn call_with(
         Vec::from_slice(alloc, text)?,
     ))?;
     let mut files = MemFiles::new(held, Vec::new(alloc));
-    let mut sink = MemSink::new(alloc, [1000, 1000, 100_000], 1000, Vec::new(alloc))?;
-    let mut pages = MemPages::new(alloc, 400, 1000, listed(alloc, page)?)?;
+    let mut sink = MemSink::new(
+        alloc,
+        [1000, 1000, 100_000],
+        1000,
+        listed(alloc, fails.sink)?,
+    )?;
+    let mut pages = MemPages::new(alloc, 400, 1000, listed(alloc, fails.page)?)?;
     let mut lines = MemLines::new(typed);
     let status = vax_main(
         alloc,
@@ -111,12 +132,21 @@ pub(crate) fn call_failing(
     state: &[u8],
     page: Option<Failing>,
 ) -> Result<Left, Fail> {
-    call_with(alloc, line, ("STATE", state), page, b"")
+    call_with(alloc, line, ("STATE", state), Fails::of_pages(page), b"")
+}
+
+/// The same, with the call of the channels of this number to fail.
+pub(crate) fn call_cut(alloc: Global, line: &str, number: u64) -> Result<Left, Fail> {
+    let fails = Fails {
+        page: None,
+        sink: Some(Failing::Call(number)),
+    };
+    call_with(alloc, line, ("STATE", b""), fails, b"")
 }
 
 /// The same, where the file more is the source A, with no call that is to fail.
 pub(crate) fn call_over(alloc: Global, line: &str, source: &[u8]) -> Result<Left, Fail> {
-    call_with(alloc, line, ("A", source), None, b"")
+    call_with(alloc, line, ("A", source), Fails::of_pages(None), b"")
 }
 
 /// The same over a saved state, with no call that is to fail.
@@ -131,7 +161,7 @@ pub(crate) fn debug(
     typed: &[u8],
     page: Option<Failing>,
 ) -> Result<Left, Fail> {
-    call_with(alloc, line, ("STATE", b""), page, typed)
+    call_with(alloc, line, ("STATE", b""), Fails::of_pages(page), typed)
 }
 
 /// The state of the move behind its first part: 1,356 bytes.

@@ -1,8 +1,8 @@
 //! Runs that are saved and go on. Expected values are those of the whole run, or worked by hand.
-use crate::calls::{call, call_failing, debug, move_state};
+use crate::calls::{call, call_cut, call_failing, debug, move_state};
 use std::process::Abort;
 use std::test::Fail;
-use vax_outside::Fail as Failing;
+use vax_outside::{Fail as Failing, StateFile};
 
 /// Within the move: 512 of 1024 units are done, and 1024 bytes are to be moved from 80000600.
 const HALFWAY: &[u8] = b"ENDING TURNS\nSTEPS 0\nUNITS 512\n\
@@ -29,11 +29,11 @@ fn goes_on_within_an_instruction(rt: HostRuntime) -> Result<(), Fail> {
     let alloc = rt.alloc();
     let saved = move_state(alloc)?;
     assert!(rt; saved.code == 8 && saved.report() == HALFWAY && saved.out() == b"".as_slice());
-    assert!(rt; saved.state().len() == 1356);
+    assert!(rt; saved.state().len() == 1356 && saved.file() == StateFile::Kept);
     assert!(rt; saved.state().starts_with(b"VAXS\x01\0\0\0\0\0\0\0\0\0\0\0"));
     let resumed = call(alloc, "resume STATE", saved.state())?;
     assert!(rt;
-        resumed.code == 0 && resumed.report() == MOVED && resumed.state() == b"".as_slice()
+        resumed.code == 0 && resumed.report() == MOVED && resumed.file() == StateFile::Untouched
     );
     let evicted = call(
         alloc,
@@ -56,6 +56,7 @@ fn saves_nothing_at_an_ending(rt: HostRuntime) -> Result<(), Fail> {
     let alloc = rt.alloc();
     let saved = call(alloc, "save MOVE --base bare", b"")?;
     assert!(rt; saved.code == 0 && saved.report() == MOVED && saved.state() == b"".as_slice());
+    assert!(rt; saved.file() == StateFile::Removed);
     Ok(())
 }
 
@@ -78,6 +79,44 @@ fn goes_on_behind_a_step(rt: HostRuntime) -> Result<(), Fail> {
     Ok(())
 }
 
+/// Each call of the channels fails in turn: two writes of the state, the call that keeps it, and the write of the report.
+#[test]
+fn a_failed_call_keeps_no_part(rt: HostRuntime) -> Result<(), Fail> {
+    let alloc = rt.alloc();
+    let line = "save MOVE --base bare --turns 3";
+    let rows = [
+        (1, 11, 0, StateFile::Untouched),
+        (2, 11, 1000, StateFile::Untouched),
+        (3, 11, 1356, StateFile::Untouched),
+        (4, 11, 1356, StateFile::Kept),
+        (5, 8, 1356, StateFile::Kept),
+    ];
+    for (number, code, len, file) in rows {
+        let left = call_cut(alloc, line, number)?;
+        assert!(rt; left.code == code && left.state().len() == len, "{number}");
+        assert!(rt; left.file() == file, "{number}");
+    }
+    Ok(())
+}
+
+/// The same where the run ends: the call that removes an older state, and the write of the report.
+#[test]
+fn a_failed_removal_is_told(rt: HostRuntime) -> Result<(), Fail> {
+    let alloc = rt.alloc();
+    let line = "save MOVE --base bare";
+    let rows = [
+        (1, 11, StateFile::Untouched),
+        (2, 11, StateFile::Removed),
+        (3, 0, StateFile::Removed),
+    ];
+    for (number, code, file) in rows {
+        let left = call_cut(alloc, line, number)?;
+        assert!(rt; left.code == code && left.file() == file, "{number}");
+        assert!(rt; left.report().is_empty() == (code == 11), "{number}");
+    }
+    Ok(())
+}
+
 /// A page that is on file is read for the state, and that read fails.
 #[test]
 fn a_failed_read_cuts_the_state_short(rt: HostRuntime) -> Result<(), Fail> {
@@ -86,7 +125,7 @@ fn a_failed_read_cuts_the_state_short(rt: HostRuntime) -> Result<(), Fail> {
     let whole = call(alloc, line, b"")?;
     assert!(rt; whole.code == 0 && whole.report().starts_with(b"ENDING STEPS\nSTEPS 240\n"));
     let saved = call_failing(alloc, line, b"", Some(Failing::Read(1)))?;
-    assert!(rt; saved.code == 9);
+    assert!(rt; saved.code == 9 && saved.file() == StateFile::Untouched);
     assert!(rt; saved.report().starts_with(b"ENDING PAGEFAULT\nSTEPS 240\n"));
     assert!(rt; whole.state().starts_with(saved.state()));
     assert!(rt; saved.state().len() < whole.state().len());
@@ -110,6 +149,7 @@ fn goes_on_from_a_session(rt: HostRuntime) -> Result<(), Fail> {
         let by_steps = format!(in alloc; "save WORDS --input TEXT --steps {steps}")?;
         let saved = call(alloc, &by_steps, b"")?;
         assert!(rt; debugged.code == 0 && debugged.state() == saved.state());
+        assert!(rt; debugged.file() == StateFile::Kept);
         assert!(rt; debugged.report().ends_with(saved.report()));
         let resumed = call(alloc, "resume STATE", debugged.state())?;
         assert!(rt; resumed.code == 0 && resumed.report() == whole.report());
@@ -130,13 +170,13 @@ fn a_session_saves_no_ending(rt: HostRuntime) -> Result<(), Fail> {
     let alloc = rt.alloc();
     let ended = debug(alloc, "debug MOVE --base bare", b"GO\nSAVE\n", None)?;
     assert!(rt; ended.code == 0 && ended.report().ends_with(MOVED));
-    assert!(rt; ended.state() == b"".as_slice());
+    assert!(rt; ended.state() == b"".as_slice() && ended.file() == StateFile::Removed);
     let line = "debug WIDE --base bare --frames 64";
     let typed = b"STEP 240\nSAVE\n";
     let whole = debug(alloc, line, typed, None)?;
     assert!(rt; whole.code == 0);
     let cut = debug(alloc, line, typed, Some(Failing::Read(1)))?;
-    assert!(rt; cut.code == 9);
+    assert!(rt; cut.code == 9 && cut.file() == StateFile::Untouched);
     assert!(rt; whole.state().starts_with(cut.state()));
     assert!(rt; cut.state().len() < whole.state().len());
     Ok(())

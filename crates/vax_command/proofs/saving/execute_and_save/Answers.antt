@@ -16,11 +16,11 @@ pub returns-in-Ended-clause-went : goal.returns-in-Ended-clause-went
 returns-in-Ended-clause-went g c = λ frames m f.
     let setup : Setup = record { limits = c.args.limits.now; areas = (keeping (engine c.args.machine)).areas; rules = c.args.schedule.now; frames = frames; start = m; items = []; strict = Off } in
     let starts : Starts setup (engine c.args.machine) = let t = c.requires.few_turns in record { is_fresh = f; areas = refl; low = omega (arith, t) } in
-    let seen = outside (change g.K.Sink.faults g.K.Sink.contents c.args.sink.now c.report.new.sink) (change g.F.PageFile.faults g.F.PageFile.contents c.args.pages.now c.run.new.file) in
+    let seen = outside (change g.K.Sink.faults g.K.Sink.contents c.args.sink.now c.remove_and_report.new.sink) (change g.F.PageFile.faults g.F.PageFile.contents c.args.pages.now c.run.new.file) in
     let read = change g.F.PageFile.faults g.F.PageFile.contents c.run.new.file c.run.new.file in
-    run_ended seen setup (engine c.args.machine) (engine c.run.new.self) starts c.requires.unlisted refl (seen_of g.K.Sink.faults g.K.Sink.contents c.run.new.sink) c.report.result
+    run_ended seen setup (engine c.args.machine) (engine c.run.new.self) starts c.requires.unlisted refl (seen_of g.K.Sink.faults g.K.Sink.contents c.run.new.sink) c.remove_and_report.result
     read refl c.in-Ended.ending c.in-Ended.ensures.ends c.run.ensures.only (c.in-Ended.ensures.written (λ x. cc))
-    (λ r. rose_from _ _ _ (c.in-Ended.ensures.unfailed (λ x. cc) (λ x. cc)) r) c.report.ensures
+    (λ r. rose_from _ _ _ (c.in-Ended.ensures.unfailed (λ x. cc) (λ x. cc)) r) c.remove_and_report.ensures
 
 pub returns-in-Steps-clause-went : goal.returns-in-Steps-clause-went
 returns-in-Steps-clause-went g c = λ frames m f.
@@ -52,9 +52,9 @@ pub returns-in-PageFault-clause-went : goal.returns-in-PageFault-clause-went
 returns-in-PageFault-clause-went g c = λ frames m f.
     let setup : Setup = record { limits = c.args.limits.now; areas = (keeping (engine c.args.machine)).areas; rules = c.args.schedule.now; frames = frames; start = m; items = []; strict = Off } in
     let starts : Starts setup (engine c.args.machine) = let t = c.requires.few_turns in record { is_fresh = f; areas = refl; low = omega (arith, t) } in
-    let seen = outside (change g.K.Sink.faults g.K.Sink.contents c.args.sink.now c.report-in-PageFault.new.sink) (change g.F.PageFile.faults g.F.PageFile.contents c.args.pages.now c.run.new.file) in
-    run_cut seen setup (engine c.args.machine) (engine c.run.new.self) starts c.requires.unlisted refl (seen_of g.K.Sink.faults g.K.Sink.contents c.run.new.sink) c.report-in-PageFault.result
-    (c.in-PageFault.ensures.fault refl) c.in-PageFault.ensures.ends c.run.ensures.only (c.in-PageFault.ensures.written (λ x. cc)) c.report-in-PageFault.ensures
+    let seen = outside (change g.K.Sink.faults g.K.Sink.contents c.args.sink.now c.report.new.sink) (change g.F.PageFile.faults g.F.PageFile.contents c.args.pages.now c.run.new.file) in
+    run_cut seen setup (engine c.args.machine) (engine c.run.new.self) starts c.requires.unlisted refl (seen_of g.K.Sink.faults g.K.Sink.contents c.run.new.sink) c.report.result
+    (c.in-PageFault.ensures.fault refl) c.in-PageFault.ensures.ends c.run.ensures.only (c.in-PageFault.ensures.written (λ x. cc)) c.report.ensures
 
 pub returns-in-WriteFault-clause-went : goal.returns-in-WriteFault-clause-went
 returns-in-WriteFault-clause-went g c = λ frames m f.
@@ -74,7 +74,7 @@ pub returns-in-Turns-clause-failed : goal.returns-in-Turns-clause-failed
 returns-in-Turns-clause-failed g c = admits_then _ _ _ _ _ (c.in-Turns.ensures.unfailed (λ x. cc) (λ x. cc)) c.save_and_report-in-Turns.ensures.failed
 
 pub returns-in-PageFault-clause-failed : goal.returns-in-PageFault-clause-failed
-returns-in-PageFault-clause-failed g c = fault_admits _ _ _ _ _ _ _ (c.in-PageFault.ensures.fault refl) c.report-in-PageFault.ensures
+returns-in-PageFault-clause-failed g c = fault_admits _ _ _ _ _ _ _ (c.in-PageFault.ensures.fault refl) c.report.ensures
 
 pub returns-in-WriteFault-clause-failed : goal.returns-in-WriteFault-clause-failed
 returns-in-WriteFault-clause-failed g c = λ n. record { once = c.in-WriteFault.ensures.failed n; answer = inr refl }
