@@ -1,3 +1,4 @@
+pub mod Adding
 pub mod Leading
 pub mod Placing
 pub mod Rising

@@ -3,7 +3,7 @@ use Rattle.std.proofs.Common.{◌≡◌, ◌≤◌, ◌<◌, ℕ, zero, suc, Boo
 use Rattle.std.proofs.lemmas.Bool.{eqb-true, eq-eqb, false≢true}
 use Rattle.std.specs.Prelude.{◌==◌, if◌then◌else◌, nat_lt, unwrap_or}
 use Rattle.vax_asm_circles.specs.Circles.{Step, waits}
-use Rattle.vax_asm_circles.specs.Places.{place, kept_below}
+use Rattle.vax_asm_circles.specs.Places.{place, kept_below, first_below}
 
 choice_within : (b : Bool) (p n : ℕ) → p ≤ n → (if b then 0 else suc p) ≤ suc n
 choice_within true p n h = omega arith
@@ -73,10 +73,6 @@ unfolding place
 place-take zero steps i = grind arith
 place-take (suc n) [] i = refl
 place-take (suc n) (s ∷ steps) i = choice_taken (s.from == i) (place steps i) (place (take n steps) i) (length (take n steps)) (place-take n steps i)
-
--- what is kept for each definition after so many steps
-abbrev pub first_below : ℕ → ℕ → Option ℕ
-first_below n p = if nat_lt p n then Some p else None
 
 pub kept-first_below : (n m p : ℕ) → n ≤ m → p ≤ m → kept_below n (Some p) ≡ kept_below n (first_below m p)
 kept-first_below n m p h within = grind arith

@@ -7,6 +7,7 @@ use Rattle.std.specs.Cmp.{nat_eq_equiv}
 use Rattle.std.specs.Prelude.{◌||◌, ◌==◌, nat_eq, if◌then◌else◌}
 use Rattle.std.specs.List.{IsDistinct}
 use Rattle.vax_asm_circles.specs.Circles.{Step, among, waits, size, leads}
+use Rattle.vax_asm_circles.specs.Growing.{all_awaited}
 use Rattle.vax_asm_circles.specs.Walks.{Met, Walked}
 use Rattle.vax_asm_circles.proofs.Leading.{more_steps, one_further, met_at_last, at_once}
 
@@ -161,11 +162,6 @@ walk_ends waits awaited first met [] none w =
     (met_at_last waits first met (λ j k begun e. ⊎_elim (λ m. m) (λ n. absurd (false≢true n)) (w.closed j k begun e)) (length awaited) first first (inl refl))
 
 -- all for which any definition waits
-
-pub all_awaited : List Step → List ℕ
-all_awaited [] = []
-all_awaited (s ∷ steps) = s.to ++ all_awaited steps
-
 pub length-all_awaited : (steps : List Step) → length (all_awaited steps) ≡ size steps
 unfolding all_awaited size
 length-all_awaited [] = refl

@@ -1,4 +1,5 @@
 pub mod Circles
+pub mod Growing
 pub mod Heights
 pub mod Places
 pub mod View

@@ -16,3 +16,7 @@ kept_below n (Some p) = if nat_lt p n then p else n
 -- the places of the first steps are kept, by definition: of these, and of more of them
 abbrev pub AreFirsts : {S : Type 0} → List Step → HashMap ℕ ℕ S → Type 0
 AreFirsts steps places = (i : ℕ) → place steps i ≡ kept_below (length steps) (get nat_eq places i)
+
+-- the place that is kept of a definition among so many steps, where that is its first
+abbrev pub first_below : ℕ → ℕ → Option ℕ
+first_below n p = if nat_lt p n then Some p else None

@@ -6,10 +6,12 @@
 #![tactic(auto)]
 
 mod circles;
+mod growing;
 mod heights;
 mod places;
 mod steps;
 mod walk;
 
 pub use circles::{comes_back, first_circle};
+pub use growing::Steps;
 pub use steps::Step;

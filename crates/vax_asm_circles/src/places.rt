@@ -12,7 +12,11 @@ use std::collections::HashMap;
 use vax_space::NoMemory;
 
 /// Keeps a place for a definition, unless one is kept.
-fn keep(places: &mut HashMap<usize, usize>, number: usize, at: usize) -> Result<(), NoMemory>
+pub(crate) fn keep(
+    places: &mut HashMap<usize, usize>,
+    number: usize,
+    at: usize,
+) -> Result<(), NoMemory>
     ensures { OnOk result ((i : ℕ) →
         get nat_eq places.new i ≡ (if number == i then Some (unwrap_or (get nat_eq places.old i) at)
         else get nat_eq places.old i)) }

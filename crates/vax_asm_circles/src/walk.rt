@@ -21,7 +21,7 @@ pub(crate) fn add_last(list: &mut Vec<usize>, item: usize) -> Result<(), NoMemor
 }
 
 /// Meets these definitions: those that weren't met before are to be looked at.
-fn meet_all(
+pub(crate) fn meet_all(
     met: &mut HashSet<usize>,
     work: &mut Vec<usize>,
     numbers: &[usize],

@@ -104,3 +104,23 @@ fn a_long_chain_ends_or_comes_back(rt: HostRuntime) -> Result<(), Fail> {
     assert!(rt; comes_back(alloc, &steps, 1000)?);
     Ok(())
 }
+
+#[test]
+fn steps_are_added_and_taken_back(rt: HostRuntime) -> Result<(), Fail> {
+    let alloc = rt.alloc();
+    let mut steps = Steps::new(alloc);
+    assert!(rt; !steps.add(alloc, step(alloc, 3, &[1])?)?);
+    assert!(rt; !steps.add(alloc, step(alloc, 1, &[2])?)?);
+    assert!(rt; steps.add(alloc, step(alloc, 2, &[9, 3])?)?);
+    steps.take_back();
+    // 2 has no step again, and of those that it gets the first counts
+    assert!(rt; !steps.add(alloc, step(alloc, 2, &[9])?)?);
+    assert!(rt; !steps.add(alloc, step(alloc, 2, &[3])?)?);
+    steps.take_back();
+    steps.take_back();
+    assert!(rt; steps.add(alloc, step(alloc, 2, &[3])?)?);
+    assert!(rt; steps.add(alloc, step(alloc, 8, &[8])?)?);
+    // what leads into a circle isn't in it
+    assert!(rt; !steps.add(alloc, step(alloc, 9, &[8, 3])?)?);
+    Ok(())
+}

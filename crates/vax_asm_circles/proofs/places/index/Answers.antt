@@ -4,9 +4,9 @@ use Rattle.std.specs.HashMap.{get}
 use Rattle.std.proofs.Math.ListN.{get_or-map}
 use Rattle.std.proofs.lemmas.List.{length-map, length-take}
 use Rattle.vax_asm_circles.specs.Circles.{Step}
-use Rattle.vax_asm_circles.specs.Places.{place, kept_below}
+use Rattle.vax_asm_circles.specs.Places.{first_below, kept_below, place}
 use Rattle.vax_asm_circles.specs.View.{step_of}
-use Rattle.vax_asm_circles.proofs.Placing.{first_below, kept_one, place-take, place_within, kept-first_below}
+use Rattle.vax_asm_circles.proofs.Placing.{kept_one, place-take, place_within, kept-first_below}
 use Rattle.vax_asm_circles.proofs.places.index.Goals as goal
 
 pub loop-at-preserved : goal.loop-at-preserved

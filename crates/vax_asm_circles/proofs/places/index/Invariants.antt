@@ -1,9 +1,8 @@
 use Rattle.std.proofs.Common.{◌≡◌, ℕ, map}
 use Rattle.std.specs.Prelude.{nat_eq}
 use Rattle.std.specs.HashMap.{get}
-use Rattle.vax_asm_circles.specs.Places.{place}
+use Rattle.vax_asm_circles.specs.Places.{first_below, place}
 use Rattle.vax_asm_circles.specs.View.{step_of}
-use Rattle.vax_asm_circles.proofs.Placing.{first_below}
 use Rattle.vax_asm_circles.proofs.places.index.Given as goal
 
 abbrev pub invariant-loop-at : goal.invariant-loop-at

@@ -1,8 +1,9 @@
 use Rattle.std.proofs.Common.{◌∙◌, ◌∷◌, [], ℕ, List, ap, subst, arith, length, length-append, map}
 use Rattle.vax_asm_circles.specs.Circles.{waits, leads}
+use Rattle.vax_asm_circles.specs.Growing.{all_awaited}
 use Rattle.vax_asm_circles.specs.View.{step_of}
 use Rattle.vax_asm_circles.specs.Walks.{Met, Walked}
-use Rattle.vax_asm_circles.proofs.Walking.{walked_on, walk_ends, met_within, awaited_within, all_awaited, length-all_awaited}
+use Rattle.vax_asm_circles.proofs.Walking.{walked_on, walk_ends, met_within, awaited_within, length-all_awaited}
 use Rattle.vax_asm_circles.proofs.walk.is_met.Goals as goal
 
 pub work-preserved : goal.work-preserved

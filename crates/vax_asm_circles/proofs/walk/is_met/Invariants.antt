@@ -1,8 +1,8 @@
 use Rattle.std.proofs.Common.{◌+◌, ◌-◌, length, map}
 use Rattle.vax_asm_circles.specs.Circles.{waits}
+use Rattle.vax_asm_circles.specs.Growing.{all_awaited}
 use Rattle.vax_asm_circles.specs.View.{step_of}
 use Rattle.vax_asm_circles.specs.Walks.{Walked}
-use Rattle.vax_asm_circles.proofs.Walking.{all_awaited}
 use Rattle.vax_asm_circles.proofs.walk.is_met.Given as goal
 
 abbrev pub invariant-work : goal.invariant-work
