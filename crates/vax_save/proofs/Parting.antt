@@ -3,11 +3,11 @@ use Rattle.std.proofs.Common.{◌≡◌, ℕ, List, [], ◌∷◌, ◌++◌, map
 use Rattle.vax_outside.specs.Channels.{Byte, Channels, Grew, GrewByPrefix, SaveStep, only}
 use Rattle.vax_outside.specs.declared.traits.Chan.TheVariants.{State}
 
-first_of : List SaveStep → SaveStep → SaveStep
+abbrev first_of : List SaveStep → SaveStep → SaveStep
 first_of [] other = other
 first_of (step ∷ steps) other = step
 
-others_of : List SaveStep → List SaveStep
+abbrev others_of : List SaveStep → List SaveStep
 others_of [] = []
 others_of (step ∷ steps) = steps
 

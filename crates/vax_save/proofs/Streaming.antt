@@ -1,8 +1,8 @@
 -- Bytes on their way to State.
 use Rattle.std.proofs.Common.{◌≡◌, ℕ, List, [], ◌++◌, append_assoc, append-nil, Option, refl, sym, ap, subst, ◌∙◌}
-use Rattle.vax_outside.specs.Channels.{Channels, Grew, GrewByPrefix, kept, kept_state, only}
+use Rattle.vax_outside.specs.Channels.{Channels, Grew, GrewByPrefix, only}
 use Rattle.vax_outside.specs.declared.traits.Chan.TheVariants.{State}
-use Rattle.vax_outside.proofs.Growth.{grew_nothing, prefix_stays, prefix_within, grew_only, grew_more}
+use Rattle.vax_outside.proofs.Growth.{grew_nothing, prefix_stays, prefix_within, grew_only}
 use Rattle.vax_save.specs.Stream.{Cuts, HasCut, HasPut, IsBetween, Leaves, HasBegun, HasWritten, Puts, Stream, stream}
 
 -- nothing was written, and all is still to come
@@ -117,10 +117,7 @@ begun_lost held old now s none h g = (h.0, whole_lost h.0 held old now s none h.
 pub written_put : (held : List ℕ) (old now : Option Channels) (s : Stream) → held ≡ [] → HasPut (stream old held) s → Grew s.channels now (only State s.held) → HasWritten old now
 written_put held old now s none h g = (h.0, whole_put h.0 held old now s none h.1 g)
 
--- the state's file
-
-pub kept_whole : (old mid now : Option Channels) (bytes : List ℕ) → Grew old mid (only State bytes) → Grew mid now kept → Grew old now (kept_state bytes)
-kept_whole old mid now bytes p q = grew_more old mid now (only State bytes) kept p q
+-- a state that can't be kept
 
 pub kept_not : (old mid now : Option Channels) (bytes : List ℕ) → Grew old mid (only State bytes) → now ≡ mid → GrewByPrefix old now (only State bytes)
 kept_not old mid now bytes p same = prefix_stays old mid now State bytes [] bytes (append-nil bytes) p same
