@@ -1,4 +1,5 @@
 pub mod Counts
+pub mod Marked
 pub mod Places
 pub mod Printed
 pub mod Remarks

@@ -1,7 +1,7 @@
 // Too few or too many operands.
 
 use crate::statement::{is_mark, is_name, number_of, text_of};
-use crate::words::{Found, at, cause_at, decimal};
+use crate::words::{Found, at, cause_at, decimal, say};
 use std::alloc::Global;
 use vax_isa::{Row, by_name};
 use vax_lex::Piece;
@@ -39,7 +39,18 @@ fn lacks_comma(operands: &[Piece]) -> Option<Piece> {
     None
 }
 
-/// How many operands an instruction takes, and how many stand there.
+/// How many operands are wanted and how many there are, in words.
+fn count_words(alloc: Global, wanted: u64, count: u64) -> Result<Vec<u8>, NoMemory> {
+    let takes = decimal(alloc, wanted)?;
+    let here = decimal(alloc, count)?;
+    if wanted == 1 {
+        say(alloc, &[&takes, b" operand, not ", &here])
+    } else {
+        say(alloc, &[&takes, b" operands, not ", &here])
+    }
+}
+
+/// How many operands an instruction takes, and how many it has.
 fn counted(
     alloc: Global,
     line: &[u8],
@@ -47,14 +58,9 @@ fn counted(
     row: Row,
     count: usize,
 ) -> Result<Found, NoMemory> {
-    let takes = decimal(alloc, u64::from(row.count))?;
-    let here = decimal(alloc, count as u64)?;
+    let words = count_words(alloc, u64::from(row.count), count as u64)?;
     let name = text_of(line, operator);
-    cause_at(
-        alloc,
-        operator.start,
-        &[b": `", name, b"` takes ", &takes, b", here are ", &here],
-    )
+    cause_at(alloc, operator.start, &[b": `", name, b"` takes ", &words])
 }
 
 /// Why a statement has the wrong number of operands.

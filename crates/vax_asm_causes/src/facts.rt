@@ -19,12 +19,22 @@ pub struct KnownValue {
     pub value: i64,
 }
 
+/// A definition on the way from another one back to it: its name, in capitals, and the number of its line.
+#[derive(Drop)]
+pub struct Way {
+    pub name: Vec<u8>,
+    pub line: u32,
+}
+
 /// What is known of a statement: the values of expressions in it, and how far its branch would have to reach, counted from its end, or `.` to go
-/// from its place.
+/// from its place; the names in it that have no value there; and where it is an assignment that comes back to itself, the other definitions on the
+/// way.
 #[derive(Drop)]
 pub struct Facts {
     pub values: Vec<KnownValue>,
     pub reach: Option<i64>,
+    pub unknown: Vec<Vec<u8>>,
+    pub circle: Option<Vec<Way>>,
 }
 
 impl Facts {
@@ -33,7 +43,19 @@ impl Facts {
         Facts {
             values: Vec::new(alloc),
             reach: None,
+            unknown: Vec::new(alloc),
+            circle: None,
         }
+    }
+
+    /// Whether a name is one of those that have no value.
+    pub(crate) fn lacks(&self, name: &[u8]) -> bool {
+        for unknown in self.unknown.as_slice() {
+            if are_same(unknown, name) {
+                return true;
+            }
+        }
+        false
     }
 
     /// The value of an expression with this text.
@@ -70,7 +92,7 @@ fn is_by_register(operand: &[Piece]) -> bool {
 }
 
 /// Whether a name is that of a register.
-fn is_register(name: &[u8]) -> bool {
+pub(crate) fn is_register(name: &[u8]) -> bool {
     match name {
         [b'R' | b'r', b'0'..=b'9'] | [b'R' | b'r', b'1', b'0'..=b'5'] => true,
         _ => {
@@ -156,6 +178,23 @@ pub fn expressions_in(
         let text = text_between(line, expression_of(operand));
         let text = text.to_vec(alloc).map_err(|_| NoMemory)?;
         all.push(text).map_err(|_| NoMemory)?;
+    }
+    Ok(all)
+}
+
+/// The texts of the names in a statement's text.
+///
+/// # Errors
+///
+/// [`NoMemory`] where memory is refused.
+pub fn names_of(alloc: Global, dialect: Dialect, line: &[u8]) -> Result<Vec<Vec<u8>>, NoMemory> {
+    let pieces = pieces_of(alloc, dialect, line)?;
+    let mut all = Vec::new(alloc);
+    for piece in &pieces {
+        if is_name(*piece) {
+            let name = text_of(line, *piece).to_vec(alloc).map_err(|_| NoMemory)?;
+            all.push(name).map_err(|_| NoMemory)?;
+        }
     }
     Ok(all)
 }

@@ -5,9 +5,9 @@ ghost use Rattle.vax_asm_causes.specs.Remarks.{is_false_register, is_like_digit,
 
 use crate::cause::Place;
 use crate::count::instruction;
-use crate::names::{definition_beside, definition_of};
+use crate::names::{are_same, definition_beside, definition_of};
 use crate::places::is_called;
-use crate::statement::{is_mark, is_name, text_of};
+use crate::statement::{before_bracket, is_mark, is_name, text_of};
 use crate::words::{Found, at, cause_at, decimal};
 use std::alloc::Global;
 use vax_isa::{Letter, OperandKind};
@@ -82,6 +82,27 @@ fn misfit_text(line: &[u8], pieces: &[Piece]) -> Option<Piece> {
     None
 }
 
+/// Whether a piece is `.`, the place of the statement itself.
+fn is_here(line: &[u8], piece: Piece) -> bool {
+    is_called(line, piece, b".")
+}
+
+/// The name of a branch's operand that shows why it has no form: the first one that the source doesn't define, or the only one.
+fn branch_name(source: &[u8], line: &[u8], operand: &[Piece]) -> Option<Piece> {
+    let mut only: Option<Piece> = None;
+    let mut count: usize = 0;
+    for piece in operand {
+        if is_name(*piece) && !is_here(line, *piece) {
+            if definition_of(source, text_of(line, *piece)).is_none() {
+                return Some(*piece);
+            }
+            only = Some(*piece);
+            count = count.saturating_add(1);
+        }
+    }
+    if count == 1 { only } else { None }
+}
+
 /// Why a branch's operand has no form, if it shows: no file can say where another's name is in a branch.
 fn branch_cause(
     alloc: Global,
@@ -92,7 +113,6 @@ fn branch_cause(
     let Some(first) = operand.first() else {
         return Ok(None);
     };
-    let name = text_of(line, *first);
     if !is_name(*first) {
         let cause = cause_at(
             alloc,
@@ -101,10 +121,14 @@ fn branch_cause(
         )?;
         return Ok(Some(cause));
     }
+    let Some(piece) = branch_name(source, line, operand) else {
+        return Ok(None);
+    };
+    let name = text_of(line, piece);
     let cause = match definition_of(source, name) {
         None => cause_at(
             alloc,
-            first.start,
+            piece.start,
             &[
                 b": a branch goes to a place of this file, and `",
                 name,
@@ -115,7 +139,7 @@ fn branch_cause(
             let number = decimal(alloc, u64::from(number))?;
             cause_at(
                 alloc,
-                first.start,
+                piece.start,
                 &[
                     b": `",
                     name,
@@ -127,6 +151,42 @@ fn branch_cause(
         }
     };
     Ok(Some(cause))
+}
+
+/// Whether the operands of an operator are values and places that can't be told by `.` in the smaller dialect.
+fn is_without_here(name: &[u8]) -> bool {
+    instruction(name).is_some()
+        || are_same(name, b".BYTE")
+        || are_same(name, b".WORD")
+        || are_same(name, b".LONG")
+        || are_same(name, b".QUAD")
+        || are_same(name, b".OCTA")
+        || are_same(name, b".ADDRESS")
+        || are_same(name, b".SIGNED_BYTE")
+        || are_same(name, b".SIGNED_WORD")
+        || are_same(name, b".ALIGN")
+        || are_same(name, b".MASK")
+        || are_same(name, b".ENTRY")
+}
+
+/// The first `.` among the pieces of operands, before a bracket of one of them.
+fn here_in(line: &[u8], operands: &[&[Piece]]) -> Option<Piece> {
+    for operand in operands {
+        for piece in before_bracket(operand) {
+            if is_here(line, *piece) {
+                return Some(*piece);
+            }
+        }
+    }
+    None
+}
+
+/// The first `.` that can't be an operand or in one.
+fn false_here(place: Place<'_>, name: &[u8], operands: &[&[Piece]]) -> Option<Piece> {
+    if place.dialect.has_places_in_operands() || !is_without_here(name) {
+        return None;
+    }
+    here_in(place.line, operands)
 }
 
 /// Whether a kind of operand is stored to, or has to lie in memory.
@@ -200,7 +260,10 @@ fn empty_operand(pieces: &[Piece], operands: &[&[Piece]]) -> Option<u32> {
 /// The other line that would define a name, but that is refused.
 fn refused_line(place: Place<'_>, piece: Piece) -> Option<u32> {
     let name = text_of(place.line, piece);
-    if !is_name(piece) || definition_beside(place.source, name, place.refused).is_some() {
+    if !is_name(piece) || is_here(place.line, piece) {
+        return None;
+    }
+    if definition_beside(place.source, name, place.refused).is_some() {
         return None;
     }
     definition_of(place.source, name).filter(|number| *number != place.number)
@@ -259,6 +322,10 @@ pub(crate) fn form_cause(
         return cause_at(alloc, start, &[b": an operand is empty"]);
     }
     let name = text_of(line, operator);
+    if let Some(piece) = false_here(place, name, operands) {
+        let words = b": `.` can't be in an operand, a label has to be in its place";
+        return cause_at(alloc, piece.start, &[words]);
+    }
     if let Some(cause) = instruction_cause(alloc, place.source, line, name, operands)? {
         return Ok(cause);
     }

@@ -88,6 +88,11 @@ fn is_entry(line: &[u8], name: &[u8]) -> bool {
     are_same(word, b".ENTRY") && are_same(entry, name)
 }
 
+/// Whether a line defines a name, as its label, by an assignment or by `.ENTRY`.
+fn defines(line: &[u8], name: &[u8]) -> bool {
+    is_definition(line, name) || (!is_local(name) && is_entry(line, name))
+}
+
 /// Whether a line of a source is the entry with a name.
 pub(crate) fn has_entry(source: &[u8], name: &[u8]) -> bool {
     let mut rest = source;
@@ -105,17 +110,17 @@ fn is_among(lines: &[u32], number: u32) -> bool {
     lines.iter().any(|line| *line == number)
 }
 
-/// The first line that defines a name, as its label or by an assignment.
+/// The first line that defines a name, as its label, by an assignment or by `.ENTRY`.
 pub fn definition_of(source: &[u8], name: &[u8]) -> Option<u32> {
     definition_beside(source, name, &[])
 }
 
-/// The first line that defines a name, as its label or by an assignment, but for these lines.
+/// The first line that defines a name, as its label, by an assignment or by `.ENTRY`, but for these lines.
 pub(crate) fn definition_beside(source: &[u8], name: &[u8], others: &[u32]) -> Option<u32> {
     let mut rest = source;
     let mut number: u32 = 1;
     while let Some((line, behind)) = next_line(rest) {
-        if is_definition(line, name) && !is_among(others, number) {
+        if defines(line, name) && !is_among(others, number) {
             return Some(number);
         }
         number = number.saturating_add(1);

@@ -1,8 +1,10 @@
 // A line as a statement: its label, its operator and its operands.
 
-ghost use Rattle.std.specs.Prelude.{◌≡◌, ◌≤◌, IfOk, length, take};
+ghost use Rattle.std.specs.Prelude.{◌≡◌, ◌≤◌, IfOk, IfSome, is_some, length, take, unwrap_or};
+ghost use Rattle.vax_asm_causes.specs.Marked.{has_label, head_or, operands_in, operator_in, tail_of};
 ghost use Rattle.vax_asm_causes.specs.Places.{is_mark, is_name, line_pieces, piece_text};
 ghost use Rattle.vax_asm_causes.specs.Remarks.{operation_of, without_mark};
+ghost use Rattle.vax_lex.specs.declared.token.Piece.{Piece};
 
 use std::alloc::Global;
 use vax_dialect::Dialect;
@@ -99,7 +101,7 @@ fn behind_mark<'a>(pieces: &'a [Piece], mark: u8) -> Option<&'a [Piece]> {
 }
 
 /// Without one such mark at the front.
-fn without_mark<'a>(pieces: &'a [Piece], mark: u8) -> &'a [Piece]
+pub(crate) fn without_mark<'a>(pieces: &'a [Piece], mark: u8) -> &'a [Piece]
     ensures { result.now ≡ without_mark mark pieces.entry.now }
 {
     match pieces {
@@ -121,51 +123,65 @@ pub(crate) fn operation_of<'a>(pieces: &'a [Piece]) -> &'a [Piece]
     if is_mark(*second, b'=') { &[] } else { pieces }
 }
 
-/// What stands behind one mark or two.
-fn behind_marks<'a>(pieces: &'a [Piece], mark: u8) -> Option<&'a [Piece]> {
-    let rest = behind_mark(pieces, mark)?;
-    match behind_mark(rest, mark) {
-        Some(more) => Some(more),
-        None => Some(rest),
+/// The name with which a label or an assignment begins.
+fn label_of(pieces: &[Piece]) -> Option<Piece>
+    ensures label { is_some result ≡ has_label pieces.now }
+    ensures first { (other : Piece) → IfSome result (λ p. p ≡ head_or other pieces.now) }
+{
+    let [first, second, ..] = pieces else {
+        return None;
+    };
+    if is_mark(*second, b':') || is_mark(*second, b'=') {
+        Some(*first)
+    } else {
+        None
     }
 }
 
-/// An operator and its operands, or none.
-fn operation<'a>(label: Option<Piece>, pieces: &'a [Piece]) -> Statement<'a> {
-    match pieces.split_first() {
-        None => Statement {
-            label,
-            operator: None,
-            operands: &[],
-        },
-        Some((operator, operands)) => Statement {
-            label,
-            operator: Some(*operator),
-            operands,
-        },
+/// What is after the operator, or after the `=` of an assignment.
+fn operands_in<'a>(pieces: &'a [Piece]) -> &'a [Piece]
+    ensures { result.now ≡ operands_in pieces.entry.now }
+{
+    let [_, second, rest @ ..] = pieces else {
+        return &[];
+    };
+    if is_mark(*second, b':') {
+        return tail(without_mark(rest, b':'));
+    }
+    if is_mark(*second, b'=') {
+        return without_mark(rest, b'=');
+    }
+    tail(pieces)
+}
+
+/// The first of some pieces.
+fn first_of(pieces: &[Piece]) -> Option<Piece>
+    ensures { (other : Piece) → unwrap_or result other ≡ head_or other pieces.now }
+{
+    match pieces {
+        [first, ..] => Some(*first),
+        _ => None,
     }
 }
 
 /// The statement of these pieces.
-pub(crate) fn parts_of<'a>(pieces: &'a [Piece]) -> Statement<'a> {
-    let Some((first, rest)) = pieces.split_first() else {
-        return operation(None, pieces);
-    };
-    if let Some(behind) = behind_marks(rest, b':') {
-        return operation(Some(*first), behind);
+pub(crate) fn parts_of<'a>(pieces: &'a [Piece]) -> Statement<'a>
+    ensures operator { (first : Piece) →
+        unwrap_or result.operator first ≡ operator_in first pieces.entry.now }
+    ensures operands { result.operands.now ≡ operands_in pieces.entry.now }
+    ensures label { is_some result.label ≡ has_label pieces.entry.now }
+    ensures first { (other : Piece) →
+        IfSome result.label (λ p. p ≡ head_or other pieces.entry.now) }
+{
+    Statement {
+        label: label_of(pieces),
+        operator: first_of(operation_of(pieces)),
+        operands: operands_in(pieces),
     }
-    if let Some(operands) = behind_marks(rest, b'=') {
-        return Statement {
-            label: Some(*first),
-            operator: None,
-            operands,
-        };
-    }
-    operation(None, pieces)
 }
 
 /// How many brackets are open behind a piece.
-fn depth_behind(depth: u32, piece: Piece) -> u32 {
+pub(crate) fn depth_behind(depth: u32, piece: Piece) -> u32 {
     match piece.kind {
         PieceKind::Token(TokenKind::Mark(b'<' | b'(' | b'[')) => depth.saturating_add(1),
         PieceKind::Token(TokenKind::Mark(b'>' | b')' | b']')) => depth.saturating_sub(1),
@@ -174,7 +190,9 @@ fn depth_behind(depth: u32, piece: Piece) -> u32 {
 }
 
 /// What stands behind the first piece.
-fn tail<'a>(pieces: &'a [Piece]) -> &'a [Piece] {
+fn tail<'a>(pieces: &'a [Piece]) -> &'a [Piece]
+    ensures { result.now ≡ tail_of pieces.entry.now }
+{
     match pieces.split_first() {
         Some((_, rest)) => rest,
         None => &[],
