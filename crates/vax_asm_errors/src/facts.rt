@@ -1,7 +1,9 @@
 // What the assembler knows of statements with a fault.
 
 use std::alloc::Global;
-use vax_asm_causes::{Branch, Facts, KnownValue, branch_of, expressions_in, is_definition};
+use vax_asm_causes::{
+    Branch, Facts, KnownValue, branch_of, expressions_in, is_definition, names_of,
+};
 use vax_asm_encode::Operand;
 use vax_asm_first::{Content, Filling, Fixup, Standing};
 use vax_asm_scope::{KnownNames, Scope};
@@ -162,6 +164,22 @@ pub(crate) fn facts_here(
         Some(bytes) => Some(bytes),
         None => move_here(alloc, standing, here, text)?,
     };
+    Ok(facts)
+}
+
+/// The names in a statement of this text that have no value where it would stand.
+pub(crate) fn unknown_here(
+    alloc: Global,
+    standing: &Standing,
+    here: Value,
+    text: &[u8],
+) -> Result<Facts, NoMemory> {
+    let mut facts = Facts::new(alloc);
+    for name in names_of(alloc, standing.dialect, text)? {
+        if value_of(alloc, standing, here, &name)?.is_none() {
+            facts.unknown.push(name).map_err(|_| NoMemory)?;
+        }
+    }
     Ok(facts)
 }
 

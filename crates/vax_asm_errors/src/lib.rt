@@ -1,6 +1,7 @@
 //! The errors of a source as text: each with its place, what is wrong, the line and a mark below it.
 #![tactic(auto)]
 
+mod circles;
 mod errors;
 mod facts;
 mod laws;

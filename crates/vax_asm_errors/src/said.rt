@@ -100,6 +100,35 @@ fn said_joined(
     })
 }
 
+/// A fault of a statement whose text is the end of a line, as that of an `.IIF`: so many bytes of the line stand before it.
+fn said_at_end(
+    alloc: Global,
+    place: Place<'_>,
+    before: usize,
+    fault: Fault,
+) -> Result<Said, NoMemory>
+    ensures fault { IfOk result (λ s. s.fault ≡ fault) }
+    ensures plain { IfOk result IsPlain }
+{
+    let Cause { column, words } = cause_of(alloc, place, fault.kind)?;
+    Ok(Said {
+        fault,
+        column: as_column(column.saturating_add(before)),
+        cause: words,
+        expansion: Vec::new(alloc),
+    })
+}
+
+/// How many bytes of a line stand before a statement that is its end and not the whole; none where it isn't, or where the fault is that of the label.
+fn bytes_before(line: &[u8], seen: &Seen, fault: Fault) -> Option<usize> {
+    let is_end = seen.text.len() < line.len() && line.ends_with(&seen.text);
+    if is_end && seen.label != Some(fault.kind) {
+        Some(line.len() - seen.text.len())
+    } else {
+        None
+    }
+}
+
 /// A fault of a statement that was seen.
 pub(crate) fn said_of_seen(
     alloc: Global,
@@ -119,7 +148,10 @@ pub(crate) fn said_of_seen(
         return said_joined(alloc, outer, inner, fault);
     }
     if expansion.is_empty() {
-        return said_there(alloc, outer, fault);
+        return match bytes_before(line, seen, fault) {
+            Some(before) => said_at_end(alloc, inner, before, fault),
+            None => said_there(alloc, outer, fault),
+        };
     }
     said_inside(alloc, inner, indent(line), expansion, fault)
 }

@@ -2,8 +2,10 @@
 
 ghost use Rattle.std.specs.Prelude.{◌≡◌};
 
+use crate::circles::circle_of;
 use crate::errors::Source;
-use crate::facts::{facts_behind, facts_here};
+use crate::facts::{facts_behind, facts_here, unknown_here};
+use crate::line::line_at;
 use std::alloc::Global;
 use std::collections::BTreeMap;
 use vax_asm::{Placed, place};
@@ -23,6 +25,8 @@ const MOST_STATEMENTS: u32 = 1_000_000;
 pub(crate) struct Seen {
     pub(crate) text: Vec<u8>,
     pub(crate) facts: Facts,
+    /// The fault of the label that its line has beside it.
+    pub(crate) label: Option<FaultKind>,
     is_refused: bool,
 }
 
@@ -34,6 +38,7 @@ impl Seen {
         Seen {
             text,
             facts: Facts::new(alloc),
+            label: None,
             is_refused: false,
         }
     }
@@ -61,39 +66,94 @@ fn text_at(
     Ok(Some(text))
 }
 
-/// Keeps a statement with a fault.
-fn keep(all: &mut Statements, place: u32, seen: Seen) -> Result<(), NoMemory> {
+/// The fault of the label of a line: that of a label alone, or that which was seen before.
+fn label_fault(all: &Statements, place: u32, label: Option<FaultKind>) -> Option<FaultKind> {
+    match all.get(&place) {
+        Some(before) => label.or(before.label),
+        None => label,
+    }
+}
+
+/// Keeps a statement with a fault, with that of a label before it.
+fn keep(all: &mut Statements, place: u32, mut seen: Seen) -> Result<(), NoMemory> {
+    seen.label = label_fault(all, place, seen.label);
     match all.insert(place, seen) {
         Ok(_) => Ok(()),
         Err(_) => Err(NoMemory),
     }
 }
 
-/// The kind of fault for which a statement is refused; nothing where it stands without its label.
-fn kind_of(placed: Placed) -> Option<FaultKind> {
+/// The kinds of fault of a statement that is refused, and of one that is a label alone.
+#[derive(Clone, Copy)]
+struct Kinds {
+    refused: Option<FaultKind>,
+    label: Option<FaultKind>,
+}
+
+/// The kinds of fault that a statement has.
+fn kinds_of(placed: Placed) -> Kinds {
     match placed {
-        Placed::Faulty(kind) => Some(kind),
-        Placed::Stands | Placed::FaultyLabel(_) => None,
+        Placed::Faulty(kind) => Kinds {
+            refused: Some(kind),
+            label: None,
+        },
+        Placed::FaultyLabel(kind) => Kinds {
+            refused: None,
+            label: Some(kind),
+        },
+        Placed::Stands => Kinds {
+            refused: None,
+            label: None,
+        },
     }
 }
 
-/// What is seen of a statement: where it is refused for a value that is out of range, what is known there.
+/// What is seen of a statement: where it is refused for a value that is out of range, what is known there, and for a name without a value, which
+/// have none.
 fn seen_at(
     alloc: Global,
     standing: &Standing,
     here: Value,
-    refused: Option<FaultKind>,
+    kinds: Kinds,
     text: Vec<u8>,
 ) -> Result<Seen, NoMemory> {
-    let facts = match refused {
+    let facts = match kinds.refused {
         Some(FaultKind::Range) => facts_here(alloc, standing, here, &text)?,
+        Some(FaultKind::Undefined) => unknown_here(alloc, standing, here, &text)?,
         _ => Facts::new(alloc),
     };
     Ok(Seen {
         text,
         facts,
-        is_refused: refused.is_some(),
+        label: kinds.label,
+        is_refused: kinds.refused.is_some(),
     })
+}
+
+/// Keeps the line at which a source isn't read on for a fault, with the names in it that have no value there. Of a label that was seen there the text stays.
+fn keep_last(
+    alloc: Global,
+    all: &mut Statements,
+    source: Source<'_>,
+    fault: Fault,
+    standing: &Standing,
+) -> Result<(), NoMemory> {
+    let here = standing.here()?;
+    let text = line_at(source.text, fault.origin.line as usize);
+    let facts = unknown_here(alloc, standing, here, text)?;
+    if let Some(seen) = all.get_mut(&fault.origin.place) {
+        seen.facts = facts;
+        return Ok(());
+    }
+    let text = text.to_vec(alloc).map_err(|_| NoMemory)?;
+    let mut seen = Seen::of(alloc, text);
+    seen.facts = facts;
+    keep(all, fault.origin.place, seen)
+}
+
+/// Whether this fault is among some.
+fn is_among(faults: &[Fault], fault: Fault) -> bool {
+    faults.iter().any(|other| other.origin == fault.origin && other.kind == fault.kind)
 }
 
 /// Adds what is known once the source is read.
@@ -142,13 +202,29 @@ pub(crate) fn statements_of(
                     place: expander.lines_read(),
                 };
                 let text = text_at(alloc, faults, origin.place, &said)?;
-                let refused = kind_of(place(&mut standing, &mut assignments, alloc, origin, said)?);
+                let before = assignments.len();
+                let kinds = kinds_of(place(&mut standing, &mut assignments, alloc, origin, said)?);
                 if let Some(text) = text {
-                    let seen = seen_at(alloc, &standing, here, refused, text)?;
+                    let mut seen = seen_at(alloc, &standing, here, kinds, text)?;
+                    if assignments.len() > before {
+                        seen.facts.circle = circle_of(alloc, &assignments)?;
+                    }
                     keep(&mut all, origin.place, seen)?;
                 }
             }
-            Ok(None) | Err(MacroError::Fault { .. }) => {
+            Ok(None) => {
+                complete(alloc, &mut all, faults, &standing)?;
+                return Ok(all);
+            }
+            Err(MacroError::Fault { line, kind }) => {
+                let place = expander.lines_read();
+                let fault = Fault {
+                    origin: Origin { line, place },
+                    kind,
+                };
+                if is_among(faults, fault) {
+                    keep_last(alloc, &mut all, source, fault, &standing)?;
+                }
                 complete(alloc, &mut all, faults, &standing)?;
                 return Ok(all);
             }

@@ -66,10 +66,15 @@ abbrev pub first_spot : Dialect → Role → (name : Text) → List File → Tex
 first_spot dialect role name [] = []
 first_spot dialect role name (file ∷ files) = spot dialect role name file ++ codes ": "
 
--- a name that no file defines, at the first file that asks for it
+-- what is wrong with a name without a value that these files define: nothing defines it, or its definition waits for itself
+unfoldable pub undefined_words : Dialect → (name : Text) → (defining : List File) → Text
+undefined_words dialect name [] = codes "nothing defines the name " ++ name
+undefined_words dialect name (file ∷ files) = codes "the definition of the name " ++ name ++ codes " goes in a circle; it is at " ++ spot dialect Defines name file
+
+-- a name without a value, at the first file that asks for it
 unfoldable pub undefined_text : Dialect → (name : Text) → List File → Text
 undefined_text dialect name files =
-    first_spot dialect Asks name (those dialect Asks name files) ++ codes "error: nothing defines the name " ++ name ++ codes "\n"
+    first_spot dialect Asks name (those dialect Asks name files) ++ codes "error: " ++ undefined_words dialect name (those dialect Defines name files) ++ codes "\n"
 
 -- what is there a second time
 abbrev pub twice_words : Role → (name : Text) → Text

@@ -1,7 +1,7 @@
 // What the linker found.
 
 ghost use Rattle.std.specs.Prelude.{◌≡◌, ◌++◌, IfOk, OnOk};
-ghost use Rattle.vax_check.specs.Linking.{first_spot, line_for, line_text, link_detail, link_text, link_words, lone_file, other_text, second_text, spot, twice_text, twice_words, undefined_text};
+ghost use Rattle.vax_check.specs.Linking.{first_spot, line_for, line_text, link_detail, link_text, link_words, lone_file, other_text, second_text, spot, twice_text, twice_words, undefined_text, undefined_words};
 ghost use Rattle.vax_check.specs.View.{file_seen, files_seen};
 ghost use Rattle.vax_prelude.specs.View.{title_seen};
 
@@ -124,7 +124,29 @@ fn push_first(
     push(out, b": ")
 }
 
-/// The error of a name that no file defines.
+/// Appends what is wrong with a name without a value, which these files define: nothing defines it, or its definition waits for itself.
+#[tactic(auto, unfolding(crate::specs::Linking::undefined_words))]
+fn push_undefined(
+    alloc: Global,
+    out: &mut Vec<u8>,
+    dialect: Dialect,
+    name: &[u8],
+    defining: &[Source<'_>],
+) -> Result<(), NoMemory>
+    ensures { OnOk result (out.new.items
+        ≡ out.old.items ++ undefined_words dialect name.now (files_seen defining.now)) }
+{
+    let Some(file) = defining.first() else {
+        push(out, b"nothing defines the name ")?;
+        return push(out, name);
+    };
+    push(out, b"the definition of the name ")?;
+    push(out, name)?;
+    push(out, b" goes in a circle; it is at ")?;
+    push_spot(alloc, out, dialect, Role::Defines, name, *file)
+}
+
+/// The error of a name without a value.
 #[tactic(auto, unfolding(crate::specs::Linking::undefined_text))]
 fn undefined_text(
     alloc: Global,
@@ -137,8 +159,9 @@ fn undefined_text(
     let asking = those(alloc, dialect, Role::Asks, name, files)?;
     let mut out = Vec::new(alloc);
     push_first(alloc, &mut out, dialect, Role::Asks, name, &asking)?;
-    push(&mut out, b"error: nothing defines the name ")?;
-    push(&mut out, name)?;
+    push(&mut out, b"error: ")?;
+    let defining = those(alloc, dialect, Role::Defines, name, files)?;
+    push_undefined(alloc, &mut out, dialect, name, &defining)?;
     push(&mut out, b"\n")?;
     Ok(out)
 }

@@ -5,12 +5,12 @@ use vax_dialect::Dialect;
 
 /// A source and what is told of it.
 #[derive(Clone, Copy)]
-struct Row<'a> {
-    source: &'a str,
-    told: &'a str,
+pub(crate) struct Row<'a> {
+    pub(crate) source: &'a str,
+    pub(crate) told: &'a str,
 }
 
-fn tells_in(rt: &HostRuntime, dialect: Dialect, row: Row<'_>) -> Result<bool, Fail> {
+pub(crate) fn tells_in(rt: &HostRuntime, dialect: Dialect, row: Row<'_>) -> Result<bool, Fail> {
     let mut out = Vec::new(rt.alloc());
     let title = Title {
         preludes: &[],
@@ -25,7 +25,7 @@ fn tells_in(rt: &HostRuntime, dialect: Dialect, row: Row<'_>) -> Result<bool, Fa
     Ok(out.as_slice() == row.told.as_bytes())
 }
 
-fn tells(rt: &HostRuntime, row: Row<'_>) -> Result<bool, Fail> {
+pub(crate) fn tells(rt: &HostRuntime, row: Row<'_>) -> Result<bool, Fail> {
     tells_in(rt, Dialect::Vax, row)
 }
 
@@ -215,7 +215,7 @@ fn a_source_says_that_it_is_wrong(rt: HostRuntime) -> Result<(), Fail> {
         // behind `.ASCID` stands a text, whatever is in it
         Row {
             source: " .ASCID 'a;b' X\n",
-            told: "a.mar:1:15: error: 1: a byte belongs to no token, or the line is too long: nothing begins with `X` here\n .ASCID 'a;b' X\n              ^\n",
+            told: "a.mar:1:15: error: 1: a byte belongs to no token, or the line is too long: the text that begins with `X` has no closing `X`\n .ASCID 'a;b' X\n              ^\n",
         },
     ];
     for row in rows {

@@ -47,6 +47,18 @@ fn a_name_is_told_where_a_file_asks_for_it(rt: HostRuntime) -> Result<(), Fail> 
 }
 
 #[test]
+fn a_definition_that_comes_back_is_told(rt: HostRuntime) -> Result<(), Fail> {
+    let row = Row {
+        sources: ["X == Y\nS: HALT\n .END S\n", "Z: HALT\nY == X+1\n .END\n"],
+        kind: 1,
+        name: "Y",
+        told: "a.mar:1: error: the definition of the name Y goes in a circle; it is at b.mar:2\n",
+    };
+    assert!(rt; tells(&rt, row)?);
+    Ok(())
+}
+
+#[test]
 fn what_is_there_twice_is_told_in_the_second_file(rt: HostRuntime) -> Result<(), Fail> {
     let rows = [
         Row {
