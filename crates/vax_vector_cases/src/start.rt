@@ -1,6 +1,7 @@
 //! What steps begin with.
-ghost use Rattle.std.specs.Prelude.{◌≡◌, ◌/◌, ◌%◌, ◌^◌, IfOk};
+ghost use Rattle.std.specs.Prelude.{ℕ, ◌≡◌, ◌/◌, ◌%◌, ◌^◌, IfOk, slice_index, true};
 ghost use Rattle.vax_vectors.specs.Choices.{mode_of};
+ghost use Rattle.vax_vectors.specs.Truth.{lies_in};
 
 use crate::dice::Dice;
 use crate::operands::Draft;
@@ -74,7 +75,8 @@ fn status(dice: &mut Dice, mode: u8) -> Psl
 
 /// The registers at the start.
 fn core_of(draft: &mut Draft, mode: u8, begin: u32) -> Core
-    ensures { result.psl.0 / 2 ^ 24 % 4 ≡ mode % 4 }
+    ensures mode { result.psl.0 / 2 ^ 24 % 4 ≡ mode % 4 }
+    ensures code { slice_index result.regs 15 ≡ begin }
 {
     let psl = status(&mut draft.dice, mode);
     let mut regs = draft.regs;
@@ -142,9 +144,31 @@ fn in_order(ram: Vec<Cell>) -> Result<Vec<Cell>, AllocError> {
     Ok(ram)
 }
 
-/// What a step begins with, in the access mode of a case. It is the same for the same case. No page is absent.
+/// Where the instruction begins: in the middle of the first page with code, or near that page's end.
+fn begin_of(dice: &mut Dice) -> u32
+    ensures { result / 512 ≡ 1 }
+{
+    if dice.below(4) == 0 {
+        0x3FE - dice.below(6)
+    } else {
+        0x280
+    }
+}
+
+/// The pages of all cases.
+#[tactic(auto, unfolding(vax_vectors::specs::Truth::lies_in))]
+fn pages_of(alloc: Global) -> Result<Vec<Page>, AllocError>
+    ensures { IfOk result
+        (λ pages. (addr : ℕ) → addr / 512 ≡ 1 → lies_in pages.items addr ≡ true) }
+{
+    Ok(Vec::from_array(alloc, PAGES)?)
+}
+
+/// What a step begins with, in the access mode of a case: the same for the same case. No page is absent, and PC lies in one.
 pub fn start_of(alloc: Global, case: Case) -> Result<Start, AllocError>
-    ensures { IfOk result (λ start. mode_of start ≡ case.mode % 4) }
+    ensures mode { IfOk result (λ start. mode_of start ≡ case.mode % 4) }
+    ensures code { IfOk result (λ start.
+        lies_in start.pages.items (slice_index start.core.regs 15) ≡ true) }
 {
     let mut dice = Dice::new(case.opcode, case.seed, case.number);
     let mut regs = [0; 16];
@@ -159,18 +183,14 @@ pub fn start_of(alloc: Global, case: Case) -> Result<Start, AllocError>
         pointers: 0x900,
     };
     put_instruction(&mut draft, case)?;
-    let begin = if draft.dice.below(4) == 0 {
-        0x3FE - draft.dice.below(6)
-    } else {
-        0x280
-    };
+    let begin = begin_of(&mut draft.dice);
     put_code(&mut draft, begin)?;
     put_stack(&mut draft)?;
     put_vectors(&mut draft)?;
     let core = core_of(&mut draft, case.mode, begin);
     Ok(Start {
         core,
-        pages: Vec::from_array(alloc, PAGES)?,
+        pages: pages_of(alloc)?,
         absent: Vec::new(alloc),
         ram: in_order(draft.ram)?,
     })

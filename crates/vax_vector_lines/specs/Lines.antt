@@ -5,17 +5,19 @@ use Rattle.vax_outside.specs.Channels.{Channels, Grew, GrewByPrefix, only}
 use Rattle.vax_outside.specs.declared.traits.Chan.TheVariants.{Out}
 use Rattle.vax_isa.specs.Rows.{with_opcode}
 use Rattle.vax_vectors.specs.Choices.{mode_of, opcode_of}
+use Rattle.vax_vectors.specs.Truth.{AreWithin}
 use Rattle.vax_vectors.specs.Text.{json_text}
 use Rattle.vax_vector_runs.specs.Exact.{IsExact}
 use Rattle.vax_vectors.specs.declared.vector.Vector.{Vector}
 use Rattle.vax_vector_lines.specs.declared.write.Extent.{Extent}
 use Rattle.vax_vector_lines.specs.declared.write.Extent.TheVariants.{Whole, Part}
 
--- a step of the instruction with this opcode, in this access mode, with no page absent
+-- a step of the instruction with this opcode, in this access mode, with no page absent, and with bytes of its pages alone
 pub record IsOf (opcode mode : ℕ) (v : Vector) : Type 0 where
   pub opcode_is : opcode_of v.start ≡ opcode
   pub mode_is : mode_of v.start ≡ mode % 4
   pub none : v.start.absent.items ≡ []
+  pub within : AreWithin v.start.pages.items v.start.ram.items
 
 -- the same step with these pages absent
 pub record IsWithout (whole : Vector) (absent : List ℕ) (v : Vector) : Type 0 where

@@ -1,8 +1,8 @@
 //! The vectors of cases.
-ghost use Rattle.std.specs.Prelude.{◌≡◌, ◌++◌, List, [], IfOk};
+ghost use Rattle.std.specs.Prelude.{◌≡◌, ◌++◌, List, [], IfOk, slice_index, true};
 ghost use Rattle.vax_vectors.specs.declared.vector.Cell.{Cell};
 ghost use Rattle.vax_vectors.specs.Choices.{opcode_of};
-ghost use Rattle.vax_vectors.specs.Truth.{told};
+ghost use Rattle.vax_vectors.specs.Truth.{AreWithin, lies_in, told};
 ghost use Rattle.vax_vector_runs.specs.Exact.{IsExact};
 ghost use Rattle.vax_vector_lines.specs.Lines.{IsOf, IsWithout};
 
@@ -11,7 +11,7 @@ use vax_disasm::decode;
 use vax_isa::by_code;
 use vax_vector_cases::{Case, start_of};
 use vax_vector_runs::{NoVector, Workbench};
-use vax_vectors::{Cell, Page, Start, Vector};
+use vax_vectors::{Cell, Page, Start, Vector, within};
 use vax_word::Core;
 
 /// The name of an instruction of which the opcode or an operand is reserved.
@@ -104,7 +104,7 @@ fn with_cell(alloc: Global, ram: &[Cell], new: Cell) -> Result<Vec<Cell>, NoVect
     Ok(cells)
 }
 
-/// A start with these registers, pages and bytes, and this opcode at PC.
+/// A start with these registers, pages and those of these bytes that lie in the pages, and this opcode at PC.
 fn with_opcode(
     alloc: Global,
     core: Core,
@@ -112,24 +112,28 @@ fn with_opcode(
     ram: &[Cell],
     opcode: u8,
 ) -> Result<Start, NoVector>
+    requires { lies_in pages.items (slice_index core.regs 15) ≡ true }
     ensures core { IfOk result (λ start. start.core ≡ core) }
     ensures absent { IfOk result (λ start. start.absent.items ≡ []) }
     ensures opcode { IfOk result (λ start. opcode_of start ≡ opcode) }
+    ensures within { IfOk result (λ start. AreWithin start.pages.items start.ram.items) }
 {
     let first = Cell {
         addr: core.regs[15],
         byte: opcode,
     };
+    let cells = with_cell(alloc, ram, first)?;
+    let ram = within(alloc, &pages, &cells)?;
     Ok(Start {
         core,
         pages,
         absent: Vec::new(alloc),
-        ram: with_cell(alloc, ram, first)?,
+        ram,
     })
 }
 
 /// The vector of a case, with no page absent. Where the step is completed, memory has at the start the bytes alone that it reads or writes, and
-/// the opcode.
+/// the opcode. All of them lie in its pages.
 pub(crate) fn whole(alloc: Global, bench: &mut Workbench, case: Case) -> Result<Vector, NoVector>
     ensures told { IfOk result IsExact }
     ensures of { IfOk result (IsOf case.opcode case.mode) }

@@ -30,6 +30,15 @@ told (cell ∷ cells) addr = if addr == cell.addr then cell.byte else told cells
 unfoldable pub page_bytes : List Cell → ℕ → List ℕ
 page_bytes ram number = map (λ k. told ram (512 * number + k)) (range_with_len 0 512)
 
+-- an address lies in one of these pages
+unfoldable pub lies_in : List Page → ℕ → Bool
+lies_in [] addr = false
+lies_in (page ∷ pages) addr = if page_of addr == page.number then true else lies_in pages addr
+
+-- each of these bytes lies in one of these pages
+abbrev pub AreWithin : List Page → List Cell → Type 0
+AreWithin pages cells = All (λ cell. lies_in pages cell.addr ≡ true) cells
+
 abbrev pub area_of : List Cell → Page → Area
 area_of ram page = record { first = page.number; pages = 1; prot = page.prot; bytes = page_bytes ram page.number }
 

@@ -1,16 +1,23 @@
 //! Steps whose outcome rests on what the architecture leaves to a machine.
 ghost use Rattle.std.specs.Prelude.{◌≡◌, ◌<◌, slice_index};
-ghost use Rattle.vax_vectors.specs.declared.vector.Ends.TheVariants as Ends;
-ghost use Rattle.vax_vectors.specs.Choices.{delivers, delivers_by_choice, ends_by_choice, gives_by_choice, opcode_of, overflows, rests_on_choice, violates_at_page};
+ghost use Rattle.vax_vectors.specs.Choices.{delivers, delivers_by_choice, ends_by_choice, gives_by_choice, is_other_ending, opcode_of, overflows, rests_on_choice, violates_at_page};
 ghost use Rattle.vax_vectors.specs.Truth.{is_among, told};
 
 use crate::vector::{Cell, End, Ends, Start, Touch, Vector};
 use vax_flat::Ending;
 
 /// The opcodes of instructions of which a violation may be told by another address or another reason, or later.
-const DIFFERING_IN_VIOLATIONS: [u8; 31] = [
+const DIFFERING_IN_VIOLATIONS: [u8; 32] = [
     0x28, 0x29, 0x2A, 0x2B, 0x2C, 0x2D, 0x2E, 0x2F, 0x39, 0x3A, 0x3B, 0xE2, 0xE3, 0xE4, 0xE5, 0xE6,
-    0xE7, 0x0E, 0x0F, 0x58, 0x8F, 0xAF, 0xCF, 0xEA, 0xEB, 0xEC, 0xED, 0xEE, 0xEF, 0xF0, 0xFB,
+    0xE7, 0x0E, 0x0F, 0x58, 0x7B, 0x8F, 0xAF, 0xCF, 0xEA, 0xEB, 0xEC, 0xED, 0xEE, 0xEF, 0xF0, 0xFB,
+];
+
+/// Those with reserved operands of this machine's own.
+const DIFFERING_IN_OPERANDS: [u8; 6] = [0x02, 0x04, 0x2E, 0x2F, 0xB8, 0xB9];
+
+/// Those of strings, which may be left between two of their units.
+const OF_STRINGS: [u8; 11] = [
+    0x28, 0x29, 0x2A, 0x2B, 0x2C, 0x2D, 0x2E, 0x2F, 0x39, 0x3A, 0x3B,
 ];
 
 /// Those whose codes N and Z are read from a result that overflowed.
@@ -85,20 +92,21 @@ fn byte_at(bytes: &[u8], place: usize) -> u8
     if place < bytes.len() { bytes[place] } else { 0 }
 }
 
-/// A part of a string instruction, or an ending other than HALT's.
-fn ends_by_choice(ends: Ends) -> bool
-    ensures { result ≡ ends_by_choice ends }
+/// An ending other than HALT's, a part of a string instruction, or a string instruction that stops for a page.
+fn ends_by_choice(opcode: u8, ends: Ends) -> bool
+    ensures { result ≡ ends_by_choice opcode ends }
 {
     match ends {
-        Ends::Step(_) | Ends::Absent(_) => false,
+        Ends::Step(_) => false,
         Ends::Part { .. } => true,
+        Ends::Absent(_) => is_listed(&OF_STRINGS, opcode),
         Ends::Ended(ending) => is_other_ending(ending),
     }
 }
 
 /// An ending other than HALT's.
 fn is_other_ending(ending: Ending) -> bool
-    ensures { result ≡ ends_by_choice (Ends.Ended ending) }
+    ensures { result ≡ is_other_ending ending }
 {
     match ending {
         Ending::Halt => false,
@@ -114,8 +122,7 @@ fn delivers_by_choice(opcode: u8, touches: &[Touch]) -> bool
     let violation = delivers(touches, 0x20);
     let operand = delivers(touches, 0x18);
     let told_so = is_listed(&DIFFERING_IN_VIOLATIONS, opcode) || violates_at_page(touches);
-    form || (violation && told_so)
-        || (operand && is_listed(&[0x02, 0x04, 0x2F, 0xB8, 0xB9], opcode))
+    form || (violation && told_so) || (operand && is_listed(&DIFFERING_IN_OPERANDS, opcode))
 }
 
 /// V is set, or an arithmetic trap is delivered.
@@ -139,7 +146,7 @@ pub fn rests_on_choice(v: &Vector) -> bool
 {
     let opcode = opcode_of(&v.start);
     v.start.core.iccs != 0
-        || ends_by_choice(v.end.ends)
+        || ends_by_choice(opcode, v.end.ends)
         || delivers_by_choice(opcode, &v.end.touches)
         || gives_by_choice(opcode, &v.end)
 }

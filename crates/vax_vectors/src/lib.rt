@@ -3,9 +3,11 @@
 #![tactic(auto)]
 
 mod choices;
+mod pages;
 mod text;
 mod vector;
 
 pub use choices::{byte_told, opcode_of, rests_on_choice};
+pub use pages::{lies_in, within};
 pub use text::push_vector;
 pub use vector::{Cell, End, Ends, Page, Start, Touch, Vector};
