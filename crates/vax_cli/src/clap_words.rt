@@ -44,21 +44,13 @@ fn files_help<'a>(verb: Verb) -> &'a str {
     }
 }
 
-/// The most files of a command that takes some.
-fn most_files(verb: Verb) -> usize {
-    match verb {
-        Verb::Resume => 1,
-        _ => 8,
-    }
-}
-
-/// The files of a command.
+/// The files of a command: one, or up to eight.
 fn files<'a>(alloc: Global, verb: Verb) -> Arg<'a> {
-    Arg::new(alloc, FILES)
-        .required(true)
-        .num_args(1..=most_files(verb))
-        .action(ArgAction::Append)
-        .help(files_help(verb))
+    let files = Arg::new(alloc, FILES).required(true).help(files_help(verb));
+    match verb {
+        Verb::Resume => files.action(ArgAction::Set),
+        _ => files.num_args(1..=8).action(ArgAction::Append),
+    }
 }
 
 /// A command with its files and options.

@@ -80,8 +80,8 @@ const DEBUG: Summary<'static> = Summary {
     example: "Example: a session at a terminal, in which HELP tells the words of a line\n  \
         vax debug COUNT.MAR --base bare --prompt on\n\n\
         Sources: docs/ASSEMBLER.md\n\
-        Sessions: docs/MACHINE.md\n\
-        Reports, exit statuses and kinds of faults: docs/MESSAGES.md",
+        The machine, and the options of a session: docs/MACHINE.md\n\
+        Commands of a session, exit statuses and kinds of faults: docs/MESSAGES.md",
 };
 
 const TRACE: Summary<'static> = Summary {

@@ -525,7 +525,7 @@ fn has_all(parts: &[&str], text: &str) -> bool {
 
 #[test]
 fn shows_help(rt: HostRuntime) -> Result<(), Fail> {
-    let rows: [(&str, &[&str]); 11] = [
+    let rows: [(&str, &[&str]); 12] = [
         (
             "--help",
             &[
@@ -567,6 +567,13 @@ fn shows_help(rt: HostRuntime) -> Result<(), Fail> {
                 "Usage: vax debug [OPTIONS] <FILE>...",
                 "--prompt <on|off>",
                 "vax debug COUNT.MAR",
+            ],
+        ),
+        (
+            "resume --help",
+            &[
+                "Usage: vax resume [OPTIONS] <FILE>\n",
+                "  <FILE>  The file of a saved state\n",
             ],
         ),
         (
