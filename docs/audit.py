@@ -1,12 +1,14 @@
 #!/usr/bin/env python3
-"""Lists the definitions that the contract of `vax_main` rests on, in the order in which they can be read.
+"""Lists the definitions that the contract of `vax_main` rests on, in the order in which they can be read, and the types of the code that they speak of.
 
 Use: docs/audit.py [--check] TOP
 
-Goes from the names of the contract's clauses through the files of definitions, by their `use` lines. The list stands in docs/AUDIT.md between two
-marks, and is written there anew; with --check nothing is written, and the answer is 1 where it would change.
+Goes from the names of the contract's clauses through the files of definitions, by their `use` lines, and on to the structs and enums that these take
+from src/. The lists stand in docs/AUDIT.md between two marks, and are written there anew; with --check nothing is written, and the answer is 1
+where they would change.
 """
 import argparse
+import collections
 import glob
 import os
 import re
@@ -71,6 +73,37 @@ class File:
                         self.parts.setdefault(part[1], name)
 
 
+TYPE = re.compile(r"^pub(?:\(crate\))? (struct|enum) (\w+)\b", re.M)
+
+
+def types_of(top):
+    """The structs and enums of src/, each by the module that definitions know it by: its file, and how many lines it has."""
+    types = {}
+    for path in glob.glob(top + "/crates/*/src/**/*.rt", recursive=True):
+        part = os.path.relpath(path, top).split("/")
+        inner = [] if part[3:] == ["lib.rt"] else ".".join(part[3:])[:-3].split(".")
+        text = open(path).read()
+        for found in TYPE.finditer(text):
+            module = ".".join(["Rattle", part[1], "specs", "declared"] + inner + [found[2]])
+            end = re.compile(r"^\}|;$", re.M).search(text, found.start())
+            types[module] = (path, found[2], text[found.start() : end.end()].count("\n") + 1, found.start())
+    return types
+
+
+def types_table(top, crates, used):
+    """The rows of these types, by their files."""
+    by_file = collections.defaultdict(list)
+    for path, name, count, at in used:
+        by_file[os.path.relpath(path, top)].append((at, name, count))
+    rows = ["\n| File | Types | Lines | Which |\n", "|---|---|---|---|\n"]
+    for path in sorted(by_file, key=lambda p: (crates.index(p.split("/")[1]), p)):
+        found = sorted(by_file[path])
+        shown = " ".join(f"`{name}`" for _, name, _ in found[:6]) + (" .." if len(found) > 6 else "")
+        rows.append(f"| [{path[7:]}](../{path}) | {len(found)} | {sum(count for _, _, count in found)} | {shown} |\n")
+    lines = sum(count for _, _, count, _ in used)
+    return "".join(rows) + f"\n{len(used)} types in {len(by_file)} files of code, {lines} lines.\n"
+
+
 def main():
     arguments = argparse.ArgumentParser(description=__doc__.split("\n")[0])
     arguments.add_argument("--check", action="store_true")
@@ -83,8 +116,11 @@ def main():
         files[module] = File(path)
 
     reached, order = set(), []
+    types, used = types_of(said.top), set()
 
     def visit(module, name):
+        if module.removesuffix(".TheVariants") in types:
+            used.add(module.removesuffix(".TheVariants"))
         holder = files.get(module)
         if holder is None:
             return
@@ -138,13 +174,15 @@ def main():
         shown = " ".join(f"`{n}`" for n in names[:6]) + (" .." if len(names) > 6 else "")
         rows.append(f"| [{path[7:]}](../{path}) | {len(names)} | {count} | {shown} |\n")
     total = f"\n{len(order)} definitions in {len(seen)} files, {lines} lines with their comments.\n"
+    told = types_table(said.top, crates, [types[module] for module in used])
     page = os.path.join(said.top, "docs/AUDIT.md")
     old = open(page).read()
-    new = old[: old.index(BEGIN) + len(BEGIN)] + "".join(rows) + total + old[old.index(END):]
+    new = old[: old.index(BEGIN) + len(BEGIN)] + "".join(rows) + total + told + old[old.index(END):]
     if said.check:
         sys.exit(0 if new == old else 1)
     open(page, "w").write(new)
     print(total.strip())
+    print(told.strip().split("\n")[-1])
 
 
 if __name__ == "__main__":
