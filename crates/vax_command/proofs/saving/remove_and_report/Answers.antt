@@ -1,3 +1,4 @@
+use Rattle.std.specs.Prelude.{[]}
 use Rattle.vax_outside.specs.declared.traits.Chan.TheVariants.{Report}
 use Rattle.vax_outside.specs.Channels.{only}
 use Rattle.vax_machine.specs.Meaning.{engine}
