@@ -66,9 +66,13 @@ abbrev pub first_spot : Dialect → Role → (name : Text) → List File → Tex
 first_spot dialect role name [] = []
 first_spot dialect role name (file ∷ files) = spot dialect role name file ++ codes ": "
 
+-- no file defines a name
+abbrev pub unknown_words : (name : Text) → Text
+unknown_words name = codes "nothing defines the name " ++ name
+
 -- what is wrong with a name without a value that these files define: nothing defines it, or its definition waits for itself
 unfoldable pub undefined_words : Dialect → (name : Text) → (defining : List File) → Text
-undefined_words dialect name [] = codes "nothing defines the name " ++ name
+undefined_words dialect name [] = unknown_words name
 undefined_words dialect name (file ∷ files) = codes "the definition of the name " ++ name ++ codes " goes in a circle; it is at " ++ spot dialect Defines name file
 
 -- a name without a value, at the first file that asks for it

@@ -1,7 +1,7 @@
 // What the linker found.
 
 ghost use Rattle.std.specs.Prelude.{◌≡◌, ◌++◌, IfOk, OnOk};
-ghost use Rattle.vax_check.specs.Linking.{first_spot, line_for, line_text, link_detail, link_text, link_words, lone_file, other_text, second_text, spot, twice_text, twice_words, undefined_text, undefined_words};
+ghost use Rattle.vax_check.specs.Linking.{first_spot, line_for, line_text, link_detail, link_text, link_words, lone_file, other_text, second_text, spot, twice_text, twice_words, undefined_text, undefined_words, unknown_words};
 ghost use Rattle.vax_check.specs.View.{file_seen, files_seen};
 ghost use Rattle.vax_prelude.specs.View.{title_seen};
 
@@ -124,6 +124,14 @@ fn push_first(
     push(out, b": ")
 }
 
+/// Appends that no file defines a name.
+fn push_unknown(out: &mut Vec<u8>, name: &[u8]) -> Result<(), NoMemory>
+    ensures { OnOk result (out.new.items ≡ out.old.items ++ unknown_words name.now) }
+{
+    push(out, b"nothing defines the name ")?;
+    push(out, name)
+}
+
 /// Appends what is wrong with a name without a value, which these files define: nothing defines it, or its definition waits for itself.
 #[tactic(auto, unfolding(crate::specs::Linking::undefined_words))]
 fn push_undefined(
@@ -137,8 +145,7 @@ fn push_undefined(
         ≡ out.old.items ++ undefined_words dialect name.now (files_seen defining.now)) }
 {
     let Some(file) = defining.first() else {
-        push(out, b"nothing defines the name ")?;
-        return push(out, name);
+        return push_unknown(out, name);
     };
     push(out, b"the definition of the name ")?;
     push(out, name)?;
