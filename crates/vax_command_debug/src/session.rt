@@ -1,6 +1,6 @@
 //! Holds sessions with a debugger on programs.
 ghost use Rattle.std.specs.Prelude.{◌≡◌, ◌≤◌, ◌<◌, ◌^◌, ◌-◌, ℕ, [], length, None, IfErr, IfOk, IfSome};
-ghost use Rattle.vax_outside.specs.Channels.{only};
+ghost use Rattle.vax_outside.specs.Channels.{append, only, removed};
 ghost use Rattle.vax_outside.specs.declared.traits.Chan.TheVariants.{Report};
 ghost use Rattle.vax_flat.specs.Parts.{Place};
 ghost use Rattle.vax_flat.specs.Step.{Flat};
@@ -67,6 +67,16 @@ fn report_here<K: Sink>(machine: &Machine, meant: Status, sink: &mut K) -> Statu
     report(machine, last_of(machine.ended()), &[], meant, sink)
 }
 
+/// Removes an older state where a machine has ended, and writes the report on it.
+fn remove_here<K: Sink>(machine: &Machine, sink: &mut K) -> Status
+    ensures { Ends (change K.faults K.contents sink.old sink.new) Status.Done
+        (append removed
+        (only Report (machine_report (engine machine.now) (last_of (engine machine.now).ended) [])))
+        result }
+{
+    remove_and_report(machine, last_of(machine.ended()), sink)
+}
+
 /// Saves the state of a machine that stands between two lines, or removes an older one if it has ended, and writes the report on it.
 fn save_here<K: Sink, F: PageFile>(machine: Machine, sink: &mut K, pages: &mut F) -> Status
     ensures saves { (place : Place) → Means (engine machine) (F.contents pages.old) place →
@@ -79,7 +89,7 @@ fn save_here<K: Sink, F: PageFile>(machine: Machine, sink: &mut K, pages: &mut F
 {
     match machine.ended() {
         None => save_and_report(machine, Last::Steps, Status::Done, sink, pages),
-        Some(_) => remove_and_report(&machine, last_of(machine.ended()), sink),
+        Some(_) => remove_here(&machine, sink),
     }
 }
 

@@ -14,7 +14,7 @@ returns-in-None-clause-saves g c = λ place means.
 pub returns-in-Some-clause-saves : goal.returns-in-Some-clause-saves
 returns-in-Some-clause-saves g c = λ place means.
     let pages = change g.F.PageFile.faults g.F.PageFile.contents c.args.pages.now c.args.pages.now in
-    record { meant = Done; grown = _; so = saves_none (engine c.args.machine).ended _ pages (engine c.args.machine) place (sym c.in-Some.ensures); ends = c.remove_and_report.ensures }
+    record { meant = Done; grown = _; so = saves_none (engine c.args.machine).ended _ pages (engine c.args.machine) place (sym c.in-Some.ensures); ends = c.remove_here.ensures }
 
 pub returns-in-Some-clause-answers : goal.returns-in-Some-clause-answers
-returns-in-Some-clause-answers g c = record { meant = Done; grown = _; so = inl refl; ends = c.remove_and_report.ensures }
+returns-in-Some-clause-answers g c = record { meant = Done; grown = _; so = inl refl; ends = c.remove_here.ensures }
