@@ -1,4 +1,5 @@
 pub mod NameLaws
+pub mod LeadLaws
 pub mod LayoutLaws
 pub mod ImageLaws
 pub mod RoomLaws

@@ -19,6 +19,7 @@ use Rattle.vax_link.specs.declared.names.Names.{Names}
 use Rattle.vax_link.specs.declared.names.Chased.{Chased}
 use Rattle.vax_link.specs.declared.names.Chased.TheVariants.{Ends, Unknown, Circles}
 use Rattle.vax_link.specs.Names.{Name, Entries, definition_of, is_defined, repeated, or_else, entries_of, entries_from, transfers, second_transfer, duplicate, led, leads, is_met, chased, chase, external_name, low_longword, plus}
+use Rattle.vax_link.specs.Leads.{stepped}
 use Rattle.vax_link.specs.Tables.{IsTable}
 
 same_bool : (x y : Bool) → (x ≡ true → y ≡ true) → (y ≡ true → x ≡ true) → x ≡ y
@@ -161,17 +162,11 @@ entries_more modules i m h is =
 
 -- ---- where names lead
 
--- as many steps, whatever names they meet
-unfoldable pub stepped : List Module → Entries → ℕ → Name → ℕ → Chased
-stepped modules entries zero name offset = Circles
-stepped modules entries (suc left) name offset =
-    leads (definition_of name entries) offset (λ owner index more. stepped modules entries left (external_name modules owner index) (plus offset more))
-
 pub stepped_unknown : (modules : List Module) (entries : Entries) (left : ℕ) (name : Name) (offset : ℕ) → definition_of name entries ≡ None → stepped modules entries (suc left) name offset ≡ Unknown offset
 unfolding stepped
 stepped_unknown modules entries left name offset none = rw none refl
 
-stepped_next : (modules : List Module) (entries : Entries) (left : ℕ) (name : Name) (offset : ℕ) (d : Definition) (index : ℕ) (more : ℤ) → definition_of name entries ≡ Some d → d.value ≡ External index more
+pub stepped_next : (modules : List Module) (entries : Entries) (left : ℕ) (name : Name) (offset : ℕ) (d : Definition) (index : ℕ) (more : ℤ) → definition_of name entries ≡ Some d → d.value ≡ External index more
     → stepped modules entries (suc left) name offset ≡ stepped modules entries left (external_name modules d.owner index) (plus offset (low_longword more))
 unfolding stepped
 stepped_next modules entries left name offset d index more found value = rw (found, value) refl

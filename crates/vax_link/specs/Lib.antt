@@ -1,5 +1,6 @@
 pub mod Names
 pub mod Tables
+pub mod Leads
 pub mod Layout
 pub mod Values
 pub mod Linked

@@ -4,12 +4,13 @@ ghost use Rattle.std.specs.List.{fold};
 ghost use Rattle.vax_image.specs.declared.Base.{Base};
 ghost use Rattle.vax_module.specs.declared.Module.{Module};
 ghost use Rattle.vax_module.specs.Formed.{Formed, IsFieldOf, width_of};
+ghost use Rattle.vax_link.specs.Leads.{IsLeads};
 ghost use Rattle.vax_link.specs.Names.{entries_from};
-ghost use Rattle.vax_link.specs.Tables.{IsTable};
 ghost use Rattle.vax_link.specs.Placed.{bytes_in, IsLayout, IsValues};
 ghost use Rattle.vax_link.specs.Values as spec;
 
-use crate::names::{Chased, Names, low_longword};
+use crate::leads::Leads;
+use crate::names::{Chased, low_longword};
 use crate::placed::Layout;
 use byteorder::{ByteOrder, LittleEndian};
 use std::alloc::{AllocError, Global};
@@ -75,15 +76,15 @@ impl<'a> Values<'a> {
     pub(crate) fn new(
         alloc: Global,
         layout: Layout<'a>,
-        names: &Names<'a>,
+        leads: &Leads<'a>,
     ) -> Result<Values<'a>, AllocError>
-        ensures { let modules = names.now.modules.now in (region : Base) →
-            IsLayout layout.entry region modules → IsTable names.now (entries_from 0 modules) →
+        ensures { let modules = leads.now.names.modules.now in (region : Base) →
+            IsLayout layout.entry region modules → IsLeads leads.now (entries_from 0 modules) →
             IfOk result (λ values. IsValues values region modules) }
     {
         let mut externals = Vec::new(alloc);
-        for module in names.modules {
-            externals.push(values_of_names(alloc, &layout, names, module.externals.as_slice())?)?;
+        for module in leads.names.modules {
+            externals.push(values_of_names(alloc, &layout, leads, module.externals.as_slice())?)?;
         }
         Ok(Values { layout, externals })
     }
@@ -288,12 +289,12 @@ fn known_value(layout: &Layout, owner: u32, value: Value) -> u32
 }
 
 /// The value of a name.
-fn name_value<'a>(layout: &Layout<'a>, names: &Names<'a>, name: &'a [u8]) -> u32
-    ensures { let modules = names.now.modules.now in (region : Base) →
-        IsLayout layout.now region modules → IsTable names.now (entries_from 0 modules) →
+fn name_value<'a>(layout: &Layout<'a>, leads: &Leads<'a>, name: &'a [u8]) -> u32
+    ensures { let modules = leads.now.names.modules.now in (region : Base) →
+        IsLayout layout.now region modules → IsLeads leads.now (entries_from 0 modules) →
         result ≡ spec.name_value region modules name.entry.now }
 {
-    match names.chase(name) {
+    match leads.chase(name) {
         Chased::Ends(owner, value, offset) => {
             known_value(layout, owner, value).wrapping_add(offset)
         }
@@ -307,17 +308,17 @@ fn name_value<'a>(layout: &Layout<'a>, names: &Names<'a>, name: &'a [u8]) -> u32
 fn values_of_names<'a>(
     alloc: Global,
     layout: &Layout<'a>,
-    names: &Names<'a>,
+    leads: &Leads<'a>,
     externals: &'a [ExternalName],
 ) -> Result<Vec<u32>, AllocError>
-    ensures { let modules = names.now.modules.now in (region : Base) →
-        IsLayout layout.now region modules → IsTable names.now (entries_from 0 modules) →
+    ensures { let modules = leads.now.names.modules.now in (region : Base) →
+        IsLayout layout.now region modules → IsLeads leads.now (entries_from 0 modules) →
         IfOk result (λ values. values.items
         ≡ map (spec.external_value region modules) externals.entry.now) }
 {
     let mut values = Vec::new(alloc);
     for external in externals {
-        values.push(name_value(layout, names, external.name.as_slice()))?;
+        values.push(name_value(layout, leads, external.name.as_slice()))?;
     }
     Ok(values)
 }

@@ -10,6 +10,7 @@ use crate::LinkError;
 use crate::areas::areas_of;
 use crate::fields::Values;
 use crate::layout::lay_out;
+use crate::leads::Leads;
 use crate::names::names_of;
 use std::alloc::{AllocError, Global};
 use vax_image::{Base, Image};
@@ -89,13 +90,14 @@ pub fn link(alloc: Global, modules: &[Module], base: Base) -> Result<Image, Link
         Ok(names) => names,
         Err(name) => return Err(LinkError::Duplicate(copy_of(alloc, name)?)),
     };
-    if let Some(external) = names.undefined() {
+    let mut leads = Leads::new(alloc, names);
+    if let Some(external) = leads.undefined()? {
         let name = external.name.as_slice();
         return Err(LinkError::Undefined(copy_of(alloc, name)?));
     }
     let Some(layout) = lay_out(alloc, base, modules)? else {
         return Err(LinkError::Pages);
     };
-    let values = Values::new(alloc, layout, &names)?;
+    let values = Values::new(alloc, layout, &leads)?;
     image_of(alloc, base, modules, &values)
 }

@@ -12,6 +12,7 @@ mod areas;
 mod fields;
 mod joining;
 mod layout;
+mod leads;
 mod names;
 mod placed;
 mod texts;

@@ -7,7 +7,7 @@ ghost use Rattle.std.specs.List.{find};
 
 use std::alloc::{AllocError, Global};
 use std::collections::HashMap;
-use vax_module::{ExternalName, Module, Symbol, Value};
+use vax_module::{Module, Symbol, Value};
 
 /// What a global name stands for, and the number of its module.
 #[derive(Clone, Copy)]
@@ -29,9 +29,9 @@ pub(crate) enum Chased {
 #[derive(Drop)]
 pub(crate) struct Names<'a> {
     pub(crate) modules: &'a [Module],
-    defined: HashMap<&'a [u8], Definition>,
+    pub(crate) defined: HashMap<&'a [u8], Definition>,
     /// One more than there are definitions.
-    steps: u64,
+    pub(crate) steps: u64,
 }
 
 /// The low 32 bits.
@@ -68,7 +68,7 @@ impl<'a> Names<'a> {
     }
 
     /// Whether a name is defined.
-    fn has(&self, name: &[u8]) -> bool
+    pub(crate) fn has(&self, name: &[u8]) -> bool
         ensures { (before : Entries) →
             IsTable self.now before → result ≡ spec.is_defined name.now before }
     {
@@ -109,69 +109,6 @@ impl<'a> Names<'a> {
             self.define(name, Definition { owner, value })?;
         }
         Ok(None)
-    }
-
-    /// Where a name leads.
-    pub(crate) fn chase(&self, name: &'a [u8]) -> Chased
-        ensures { (entries : Entries) → IsTable self.now entries →
-            result ≡ spec.chase self.now.modules.now entries name.entry.now }
-    {
-        let mut name = name;
-        let mut offset = 0u32;
-        for _ in 0..self.steps {
-            match self.defined.get(name) {
-                None => return Chased::Unknown(offset),
-                Some(definition) => match definition.value {
-                    Value::External {
-                        index,
-                        offset: more,
-                    } => {
-                        name = external_name(self.modules, definition.owner, index);
-                        offset = offset.wrapping_add(low_longword(more));
-                    }
-                    value => return Chased::Ends(definition.owner, value, offset),
-                },
-            }
-        }
-        Chased::Circles
-    }
-
-    /// Whether no module defines a name that isn't weak, or its definition comes back to a name that it has already met.
-    fn is_at_fault(&self, external: &'a ExternalName) -> bool
-        ensures { (entries : Entries) → IsTable self.now entries →
-            result ≡ spec.is_at_fault self.now.modules.now entries external.entry.now }
-    {
-        let name = external.name.as_slice();
-        (!external.weak && !self.has(name)) || matches!(self.chase(name), Chased::Circles)
-    }
-
-    /// The first external name at fault.
-    pub(crate) fn undefined(&self) -> Option<&'a ExternalName>
-        ensures { (entries : Entries) → IsTable self.now entries →
-            option_copied result ≡ find (spec.is_at_fault self.now.modules.now entries)
-            (spec.externals self.now.modules.now) }
-    {
-        for module in self.modules {
-            match self.undefined_of(module.externals.as_slice()) {
-                None => {}
-                Some(external) => return Some(external),
-            }
-        }
-        None
-    }
-
-    /// The first of these external names that is at fault.
-    fn undefined_of(&self, externals: &'a [ExternalName]) -> Option<&'a ExternalName>
-        ensures { (entries : Entries) → IsTable self.now entries →
-            option_copied result ≡ find (spec.is_at_fault self.now.modules.now entries)
-            externals.entry.now }
-    {
-        for external in externals {
-            if self.is_at_fault(external) {
-                return Some(external);
-            }
-        }
-        None
     }
 }
 

@@ -9,7 +9,7 @@ use Rattle.vax_link.proofs.fields.Values.new.Goals as goal
 
 pub loop-module-preserved : goal.loop-module-preserved
 loop-module-preserved c = λ region layout table.
-    let modules = c.args.names.now.modules.now in
+    let modules = c.args.leads.now.names.modules.now in
     let i = c.loop-module.module-index in
     let values : Module → List ℕ = λ m. map (external_value region modules) m.externals in
     let pushed : bytes_in c.push.new.self.items ≡ bytes_in c.loop-module.externals.items ++ c.in_ok-values_of_names.field-0.items ∷ [] =
@@ -22,7 +22,7 @@ loop-module-preserved c = λ region layout table.
 
 pub returns : goal.returns
 returns c = λ region layout table.
-    let modules = c.args.names.now.modules.now in
+    let modules = c.args.leads.now.names.modules.now in
     let values : Module → List ℕ = λ m. map (external_value region modules) m.externals in
     record {
       layout = layout;
