@@ -1,6 +1,5 @@
 pub mod Ascending
 pub mod Beginning
-pub mod Circling
 pub mod Going
 pub mod Ranking
 pub mod Restating

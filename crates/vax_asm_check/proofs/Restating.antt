@@ -1,16 +1,22 @@
 -- Statements carried out once more.
 use Rattle.std.proofs.Common.{◌≡◌, ◌<◌, ◌≤◌, ◌+◌, ℕ, suc, add-one, List, [], ◌∷◌, ◌++◌, length, map, drop, refl, sym, ap, ◌∙◌, drop-cons}
 use Rattle.std.proofs.lemmas.List.{drop_all, map-append}
+use Rattle.std.specs.Global.{Vec}
 use Rattle.std.specs.Prelude.{slice_index_or}
 use Rattle.vax_asm.specs.Placing.{FaultyLabel, Faulty, Placed, Stands, waiting_in}
-use Rattle.vax_asm.specs.Walk.{Assembly}
+use Rattle.vax_asm.specs.Walk.{Assembly, nothing}
 use Rattle.vax_asm_check.specs.Restating.{Said, left_behind, restated}
-use Rattle.vax_asm_check.specs.View.{said_of}
+use Rattle.vax_asm_check.specs.View.{AreKept, left_of, said_of}
+use Rattle.vax_asm_check.specs.declared.left.Left.{Left}
 use Rattle.vax_asm_check.specs.declared.left.Stated.{Stated}
+use Rattle.vax_asm_circles.specs.Growing.{IsIndexed, steps_in}
+use Rattle.vax_asm_circles.specs.declared.growing.Steps.{Steps}
 use Rattle.vax_asm_faults.specs.Survey.{left_by}
+use Rattle.vax_asm_first.specs.Circles.{steps_by}
 use Rattle.vax_asm_first.specs.Fixups.{Assignment}
 use Rattle.vax_asm_first.specs.Standing.{Standing}
 use Rattle.vax_asm_labels.specs.Naming.{with_waiting}
+use Rattle.vax_dialect.specs.declared.Dialect.{Dialect}
 
 abbrev standing_in : Standing → Placed → Standing
 standing_in other (Stands s waiting) = s
@@ -48,6 +54,23 @@ kept_more stood s start before after kept e =
     ∙ ap (left_behind (said_of s)) kept
     ∙ sym e
 
-pub kept_none : (stood : List Stated) (start a : Assembly) → stood ≡ [] → a ≡ start → restated (map said_of stood) start ≡ a
+kept_none : (stood : List Stated) (start a : Assembly) → stood ≡ [] → a ≡ start → restated (map said_of stood) start ≡ a
 unfolding restated
 kept_none stood start a e f = rw (e, f) refl
+
+-- at the start
+pub none_kept : (dialect : Dialect) (list : Vec Stated) (left : Left) (all : Steps) → list.items ≡ [] → left_of left ≡ nothing dialect → steps_in all ≡ [] → IsIndexed all → AreKept dialect list left all
+none_kept dialect list left all stood start none indexed = record {
+  stood = kept_none list.items (nothing dialect) (left_of left) stood start;
+  steps = none ∙ ap (λ (a : Assembly). steps_by a.assignments) (sym start);
+  indexed = indexed;
+}
+
+-- where as much stands as before
+pub same_kept : (dialect : Dialect) (list : Vec Stated) (old new : Left) (before after : Steps) → AreKept dialect list old before → left_of new ≡ left_of old → steps_in after ≡ steps_in before → IsIndexed after
+    → AreKept dialect list new after
+same_kept dialect list old new before after kept left same indexed = record {
+  stood = kept.stood ∙ sym left;
+  steps = same ∙ kept.steps ∙ ap (λ (a : Assembly). steps_by a.assignments) (sym left);
+  indexed = indexed;
+}

@@ -1,5 +1,6 @@
 -- What the code's types mean.
-use Rattle.std.specs.Prelude.{◌≡◌, ℕ, Bool, if◌then◌else◌, List, ◌∷◌, ◌++◌, map}
+use Rattle.std.specs.Global.{Vec}
+use Rattle.std.specs.Prelude.{◌≡◌, ℕ, Bool, if◌then◌else◌, List, ◌∷◌, ◌++◌, length, map, Option}
 use Rattle.vax_asm.specs.View.{assembly_of}
 use Rattle.vax_asm.specs.Walk.{Assembly, nothing}
 use Rattle.vax_asm_check.specs.Faultless.{Following, said_at, stated as stated_faultless}
@@ -9,8 +10,15 @@ use Rattle.vax_asm_check.specs.declared.left.Left.{Left}
 use Rattle.vax_asm_check.specs.declared.left.Stated.{Stated}
 use Rattle.vax_asm_check.specs.declared.notes.Message as code_message
 use Rattle.vax_asm_check.specs.declared.survey.Survey.{Survey}
-use Rattle.vax_asm_faults.specs.Survey.{Onward, stated, with_faults}
+use Rattle.vax_asm_circles.specs.Circles.{Step}
+use Rattle.vax_asm_circles.specs.Growing.{IsIndexed, steps_in}
+use Rattle.vax_asm_circles.specs.declared.growing.Steps.{Steps}
+use Rattle.vax_asm_faults.specs.Survey.{Onward, circle_faults, stated, with_faults}
+use Rattle.vax_asm_first.specs.Circles.{steps_by}
+use Rattle.vax_asm_first.specs.Fixups.{Assignment}
 use Rattle.vax_asm_first.specs.declared.types.Origin.{Origin}
+use Rattle.vax_asm_labels.specs.Naming.{with_waiting}
+use Rattle.vax_asm_second.specs.declared.types.Fault.{Fault}
 use Rattle.vax_dialect.specs.declared.Dialect.{Dialect}
 
 abbrev pub left_of : Left → Assembly
@@ -19,9 +27,26 @@ left_of l = assembly_of l.standing l.assignments
 abbrev pub said_of : Stated → Said
 said_of s = record { origin = s.origin; text = s.line.text.items }
 
--- What stands is what the statements that stand leave, in the dialect of the source.
+-- What stands is what the statements that stand leave, in the dialect of the source. The steps are those of the assignments.
+pub record AreKept (dialect : Dialect) (list : Vec Stated) (left : Left) (all : Steps) : Type 0 where
+  pub stood : restated (map said_of list.items) (nothing dialect) ≡ left_of left
+  pub steps : steps_in all ≡ steps_by (left_of left).assignments
+  pub indexed : IsIndexed all
+
 abbrev pub IsKept : Survey → Type 0
-IsKept s = restated (map said_of s.stood.items) (nothing s.dialect) ≡ left_of s.left
+IsKept s = AreKept s.dialect s.stood s.left s.steps
+
+-- These are so many assignments with one more, if there is one, where the steps are those of the ones before.
+abbrev pub AreMore : (before : ℕ) → List Step → List Assignment → (old : List Assignment) → Option Assignment → Type 0
+AreMore before steps assignments old waiting = (length old ≡ before) × (assignments ≡ with_waiting waiting old) × (steps ≡ steps_by old)
+
+-- the fault of the one more, if it is one that makes its name come back to itself
+abbrev pub TellsCircle : List Fault → (before : ℕ) → List Step → List Assignment → Type 0
+TellsCircle told before steps assignments = (old : List Assignment) (waiting : Option Assignment) → AreMore before steps assignments old waiting → told ≡ circle_faults old waiting
+
+-- the steps are then those of all of them
+abbrev pub KeepsSteps : (before : ℕ) → (old new : List Step) → List Assignment → Type 0
+KeepsSteps before steps more assignments = (old : List Assignment) (waiting : Option Assignment) → AreMore before steps assignments old waiting → more ≡ steps_by assignments
 
 -- A statement adds its faults to those before, and leaves this, whatever comes behind it.
 abbrev pub GoesOn : Origin → (text : List ℕ) → (old new : Survey) → Type 0

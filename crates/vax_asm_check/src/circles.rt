@@ -1,17 +1,17 @@
 // Assignments that make their names come back to themselves.
 
-ghost use Rattle.std.specs.Prelude.{◌≡◌, ◌++◌, ◌∷◌, [], IfOk, List, Option, length, map};
+ghost use Rattle.std.specs.Prelude.{◌≡◌, ◌++◌, ◌∷◌, [], IfOk, List, OnOk, Option, if◌then◌else◌, length, map};
 ghost use Rattle.std.specs.List.{cons_option};
+ghost use Rattle.vax_asm_check.specs.View.{KeepsSteps, TellsCircle};
 ghost use Rattle.vax_asm_circles.specs.Circles.{comes_back};
+ghost use Rattle.vax_asm_circles.specs.Growing.{IsIndexed, steps_in};
 ghost use Rattle.vax_asm_circles.specs.View.{step_of};
-ghost use Rattle.vax_asm_faults.specs.Survey.{circle_faults};
-ghost use Rattle.vax_asm_first.specs.Circles.{step_by, steps_by};
-ghost use Rattle.vax_asm_first.specs.Fixups.{Assignment as Waiting};
+ghost use Rattle.vax_asm_first.specs.Circles.{step_by};
 ghost use Rattle.vax_asm_first.specs.View.{assignment_of};
-ghost use Rattle.vax_asm_labels.specs.Naming.{with_waiting};
+ghost use Rattle.vax_macro.specs.declared.error.FaultKind.TheVariants.{Form};
 
 use std::alloc::Global;
-use vax_asm_circles::Step;
+use vax_asm_circles::{Step, Steps};
 use vax_asm_first::{Assignment, FaultKind};
 use vax_asm_second::Fault;
 use vax_asm_values::Meaning;
@@ -41,49 +41,70 @@ fn step(alloc: Global, assignment: &Assignment) -> Result<Step, NoMemory>
     })
 }
 
-/// The assignments as steps.
-#[tactic(auto, using(vax_asm_first::proofs::Waiting::step_added, vax_asm_first::proofs::Waiting::steps_step))]
-fn steps(alloc: Global, assignments: &[Assignment]) -> Result<Vec<Step>, NoMemory>
-    ensures { IfOk result (λ v. map step_of v.items
-        ≡ steps_by (map assignment_of assignments.now)) }
+/// One more assignment. Its fault, if it makes its name come back to itself by those up to it.
+fn add_assignment(
+    alloc: Global,
+    steps: &mut Steps,
+    assignment: &Assignment,
+) -> Result<Option<Fault>, NoMemory>
+    requires { IsIndexed steps.old }
+    ensures steps { OnOk result (steps_in steps.new
+        ≡ steps_in steps.old ++ step_by (assignment_of assignment.now) ∷ []) }
+    ensures fault { IfOk result (λ o. cons_option o []
+        ≡ (if comes_back (steps_in steps.new) assignment.now.definition
+        then record { origin = assignment.now.origin; kind = Form } ∷ [] else [])) }
+    ensures indexed { OnOk result (IsIndexed steps.new) }
 {
-    let mut list = Vec::new(alloc);
-    for assignment in assignments {
-        let more = step(alloc, assignment)?;
-        list.push(more).map_err(|_| NoMemory)?;
+    let step = step(alloc, assignment)?;
+    if steps.add(alloc, step)? {
+        return Ok(Some(Fault {
+            origin: assignment.origin,
+            kind: FaultKind::Form,
+        }));
     }
-    Ok(list)
+    Ok(None)
 }
 
-/// Whether a definition comes back to itself by these assignments.
-fn closes(alloc: Global, assignments: &[Assignment], definition: usize) -> Result<bool, NoMemory>
-    ensures { IfOk result (λ b. b
-        ≡ comes_back (steps_by (map assignment_of assignments.now)) definition) }
-{
-    let steps = steps(alloc, assignments)?;
-    vax_asm_circles::comes_back(alloc, &steps, definition)
-}
-
-/// The fault of the assignment that stands behind so many before, if there is one and it makes its name come back to itself.
-#[tactic(auto, using(crate::proofs::Circling::none_more, crate::proofs::Circling::one_more))]
+/// The fault of the assignment that stands behind so many before, if there is one and it makes its name come back to itself. It is
+/// one of the steps from then on.
 pub(crate) fn circle_fault(
     alloc: Global,
+    steps: &mut Steps,
     assignments: &[Assignment],
     before: usize,
 ) -> Result<Option<Fault>, NoMemory>
-    ensures { IfOk result (λ o. (old : List Waiting) (w : Option Waiting) → length old ≡ before →
-        map assignment_of assignments.now ≡ with_waiting w old →
-        cons_option o [] ≡ circle_faults old w) }
+    requires { IsIndexed steps.old }
+    ensures fault { IfOk result (λ o.
+        TellsCircle (cons_option o []) before (steps_in steps.old) (map assignment_of assignments.now)) }
+    ensures steps { OnOk result (KeepsSteps before
+        (steps_in steps.old) (steps_in steps.new) (map assignment_of assignments.now)) }
+    ensures indexed { OnOk result (IsIndexed steps.new) }
 {
     if assignments.len() <= before {
         return Ok(None);
     }
     let last = &assignments[assignments.len() - 1];
-    if closes(alloc, assignments, last.definition)? {
-        return Ok(Some(Fault {
-            origin: last.origin,
-            kind: FaultKind::Form,
-        }));
+    add_assignment(alloc, steps, last)
+}
+
+/// The same of an assignment that has another fault, and so leaves the steps as they were.
+pub(crate) fn circle_beside(
+    alloc: Global,
+    steps: &mut Steps,
+    assignments: &[Assignment],
+    before: usize,
+) -> Result<Option<Fault>, NoMemory>
+    requires { IsIndexed steps.old }
+    ensures fault { IfOk result (λ o.
+        TellsCircle (cons_option o []) before (steps_in steps.old) (map assignment_of assignments.now)) }
+    ensures same { OnOk result (steps_in steps.new ≡ steps_in steps.old) }
+    ensures indexed { OnOk result (IsIndexed steps.new) }
+{
+    if assignments.len() <= before {
+        return Ok(None);
     }
-    Ok(None)
+    let last = &assignments[assignments.len() - 1];
+    let fault = add_assignment(alloc, steps, last)?;
+    steps.take_back();
+    Ok(fault)
 }

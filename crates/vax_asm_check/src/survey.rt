@@ -13,24 +13,26 @@ ghost use Rattle.vax_macro.specs.Expanders.{FaultIs, read_of, unclosed_of};
 ghost use Rattle.vax_macro.specs.Expansion.{AtEnd, Faulty, Opened};
 ghost use Rattle.vax_macro.specs.View.{opening_of};
 
-use crate::circles::circle_fault;
+use crate::circles::{circle_beside, circle_fault};
 use crate::left::{Left, Stated, copied, restated};
 use crate::sorting::sort;
 use std::alloc::Global;
 use vax_asm::{FaultKind, Placed, place, refusal};
+use vax_asm_circles::Steps;
 use vax_asm_first::Origin;
 use vax_asm_second::{Fault, all_faults};
 use vax_dialect::Dialect;
 use vax_macro::{Begin, Expander, Line};
 use vax_space::NoMemory;
 
-/// The dialect; what the statements without a fault leave, and these statements; the faults of the others, and the line
-/// that a fault ended.
+/// The dialect; what the statements without a fault leave, and these statements; the assignments of them that have no value as steps;
+/// the faults of the others, and the line that a fault ended.
 #[derive(Drop)]
 pub(crate) struct Survey {
     pub(crate) dialect: Dialect,
     pub(crate) left: Left,
     pub(crate) stood: Vec<Stated>,
+    pub(crate) steps: Steps,
     pub(crate) faults: Vec<Fault>,
     pub(crate) ended: Option<u32>,
 }
@@ -87,18 +89,19 @@ fn keep(list: &mut Vec<Stated>, stated: Stated) -> Result<(), NoMemory>
 }
 
 impl Survey {
+    #[tactic(auto, using(crate::proofs::Restating::none_kept))]
     pub(crate) fn new(alloc: Global, dialect: Dialect) -> Result<Survey, NoMemory>
-        ensures dialect { IfOk result (λ s. s.dialect ≡ dialect) }
         ensures left { IfOk result (λ s. left_of s.left ≡ nothing dialect) }
-        ensures stood { IfOk result (λ s. s.stood.items ≡ []) }
         ensures faults { IfOk result (λ s. s.faults.items ≡ []) }
         ensures ended { IfOk result (λ s. s.ended ≡ None) }
+        ensures kept { IfOk result (λ s. IsKept s) }
     {
         let left = Left::new(alloc, dialect)?;
         Ok(Survey {
             dialect,
             left,
             stood: Vec::new(alloc),
+            steps: Steps::new(alloc),
             faults: Vec::new(alloc),
             ended: None,
         })
@@ -123,7 +126,7 @@ impl Survey {
         )?;
         match placed {
             Placed::Stands => {
-                let circle = circle_fault(alloc, &self.left.assignments, before)?;
+                let circle = circle_fault(alloc, &mut self.steps, &self.left.assignments, before)?;
                 add(&mut self.faults, circle)?;
                 keep(&mut self.stood, Stated { origin, line })?;
                 self.ended = None;
@@ -135,7 +138,7 @@ impl Survey {
                 Ok(())
             }
             Placed::Faulty(kind) => {
-                let circle = circle_fault(alloc, &self.left.assignments, before)?;
+                let circle = circle_beside(alloc, &mut self.steps, &self.left.assignments, before)?;
                 add(&mut self.faults, Some(Fault { origin, kind }))?;
                 add(&mut self.faults, circle)?;
                 self.left = restated(alloc, self.dialect, &self.stood)?;

@@ -16,8 +16,9 @@ use vax_space::NoMemory;
 /// The faults of a source in a dialect of MACRO-32: those that lines have by themselves, line by line, and then those that
 /// the whole of it decides, by their lines.
 ///
-/// Behind a fault that the statement's text alone doesn't decide the statements before it are carried out once more. So it takes
-/// the time of an assembly for each of these, and with the square of the assignments that have no value where they stand.
+/// After a fault that the statement's text alone doesn't decide the statements before it are carried out once more. So it takes
+/// the time of an assembly for each of these. An assignment that has no value where it stands, and whose name an earlier one of
+/// these uses, takes a walk over the assignments to which its names lead.
 ///
 /// # Errors
 ///

@@ -56,6 +56,37 @@ fn all_faults_are_listed(rt: HostRuntime) -> Result<(), Fail> {
             source: b"A = B\nB = A\nC = C\nD = B\n",
             wanted: &[(2, FaultKind::Form), (3, FaultKind::Form)],
         },
+        // in a repeat each assignment names the one before
+        Row {
+            source: b" .REPT 3\nX = X+1\n .ENDR\nA = B\nB = C\nC = A\nD = A\n",
+            wanted: &[(1, FaultKind::Form), (6, FaultKind::Form)],
+        },
+        // an assignment with another fault may close a circle too
+        Row {
+            source: b"X = Y\nX = 1 NOP\nY = X Y\nY = X\nY = X\n",
+            wanted: &[
+                (2, FaultKind::Form),
+                (3, FaultKind::Form),
+                (3, FaultKind::Form),
+                (4, FaultKind::Form),
+            ],
+        },
+        // it leads to no circle of a later one
+        Row {
+            source: b"D = C+Z\nA = B\nB = A C\nB = Z\nC = A\nZ = 0\n",
+            wanted: &[(3, FaultKind::Form), (3, FaultKind::Form)],
+        },
+        // after each fault stands what stood before
+        Row {
+            source: b"D = 0\n .REPT 2\nD = D+1\nD = D+1 NOP\n .ENDR\n .BYTE 254+D\nA: NOP\n .BLKB 200\n BRB A\nB: BRB A\nB: BRB B\n",
+            wanted: &[
+                (2, FaultKind::Form),
+                (2, FaultKind::Form),
+                (6, FaultKind::Range),
+                (9, FaultKind::Range),
+                (10, FaultKind::Range),
+            ],
+        },
         // within an expansion, and behind it
         Row {
             source: b" .MACRO M X\n MOVL X\n CLRL X\n .ENDM\n M R1\n M R2\n HALT R1\n",

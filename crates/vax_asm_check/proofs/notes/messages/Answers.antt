@@ -1,7 +1,6 @@
 use Rattle.std.proofs.Common.{◌≡◌, ◌++◌, ℕ, suc, true, length, map, rules, arith, sym, ap, subst, ◌∙◌}
 use Rattle.std.specs.Prelude.{Ok, Err}
-use Rattle.vax_asm.specs.Walk.{at, nothing}
-use Rattle.vax_asm_check.proofs.Restating.{kept_none}
+use Rattle.vax_asm.specs.Walk.{at}
 use Rattle.vax_asm_check.proofs.Telling.{all_told, enough_told, fault_ends, goes_next, nothing_ends, started_messages}
 use Rattle.vax_asm_check.specs.Faultless.{Following, faultless, said_at, stated}
 use Rattle.vax_asm_check.specs.Messages.{messages, messages_in}
@@ -9,7 +8,6 @@ use Rattle.vax_asm_check.specs.View.{left_of, message_seen}
 use Rattle.vax_asm_scope.specs.Kept.{scope_of}
 use Rattle.vax_asm_scope.specs.Known.{known_here}
 use Rattle.vax_dialect.specs.Differences.{has_further_directives}
-use Rattle.vax_dialect.specs.declared.Dialect.{Dialect}
 use Rattle.vax_lex.specs.declared.value.Value.{Value}
 use Rattle.vax_macro.specs.Expanders.{Opens, rest_of, statement_of, unclosed_of}
 use Rattle.vax_macro.specs.Expansion.{opened}
@@ -26,7 +24,7 @@ statements-init c =
     record {
       goes = (suc (work rest), omega arith, started_messages c.args.dialect c.args.source.now _ rest (left_of s.left) s.ended further none c.in_ok-expander.ensures.rest is.left is.ended);
       few = let e = ap length none in omega (arith, e);
-      kept = kept_none s.stood.items (nothing s.dialect) (left_of s.left) is.stood (is.left ∙ ap (λ (d : Dialect). nothing d) (sym is.dialect));
+      kept = is.kept;
       quiet = c.in_ok-expander.ensures.error;
     }
 

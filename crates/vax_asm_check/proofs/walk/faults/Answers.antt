@@ -1,8 +1,6 @@
 use Rattle.std.proofs.Common.{◌≡◌, ℕ, suc, arith, sym, ap, subst, ◌∙◌}
 use Rattle.std.specs.Prelude.{Ok, Err, None}
-use Rattle.vax_asm.specs.Walk.{at, nothing}
-use Rattle.vax_dialect.specs.declared.Dialect.{Dialect}
-use Rattle.vax_asm_check.proofs.Restating.{kept_none}
+use Rattle.vax_asm.specs.Walk.{at}
 use Rattle.vax_asm_check.proofs.Surveying.{all_found, goes_next, if_ok, started_survey, survey_goes}
 use Rattle.vax_asm_check.specs.Restating.{resumed}
 use Rattle.vax_asm_check.specs.View.{left_of}
@@ -22,7 +20,7 @@ statements-init c =
     let is = c.in_ok-survey.ensures in
     record {
       goes = (suc (work rest), omega arith, started_survey c.args.dialect c.args.source.now rest (left_of s.left) s.ended s.faults.items c.in_ok-expander.ensures.rest is.left is.ended is.faults);
-      kept = kept_none s.stood.items (nothing s.dialect) (left_of s.left) is.stood (is.left ∙ ap (λ (d : Dialect). nothing d) (sym is.dialect));
+      kept = is.kept;
       quiet = c.in_ok-expander.ensures.error;
     }
 
