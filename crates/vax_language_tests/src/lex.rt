@@ -115,7 +115,11 @@ fn shown(rt: &impl Abort, alloc: Global, line: &str) -> Result<String, Fail> {
 }
 
 /// The value of a line's tokens.
-fn value(rt: &impl Abort, alloc: Global, line: &str) -> Result<Result<Value, ExprError>, Fail> {
+pub(crate) fn value(
+    rt: &impl Abort,
+    alloc: Global,
+    line: &str,
+) -> Result<Result<Value, ExprError>, Fail> {
     assert!(rt; line.len() <= 1024);
     let tokens = scan(alloc, line.as_bytes())?;
     Ok(evaluate(

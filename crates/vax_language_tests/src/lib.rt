@@ -5,3 +5,5 @@
 mod lex;
 #[cfg(test)]
 mod macros;
+#[cfg(test)]
+mod nested;
