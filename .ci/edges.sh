@@ -290,5 +290,60 @@ for pair in {1..40}; do
   expect "pair $pair in one folder" '0 0 same same same same same same' "$found"
 done
 
+# ---- Signs and brackets, on a small stack ----
+
+# small WORDS..: the status of a call with a stack of 384 KB, and the first line on standard error
+small() {
+  (ulimit -s 384 && exec "$vax" "$@" </dev/null >out 2>err)
+  echo "$? $(head -n 1 err)"
+}
+
+# times TEXT COUNT: the text so many times
+times() { printf -- "$1%.0s" $(seq "$2"); }
+
+# source_of TEXT: a program with this expression
+source_of() { printf 'START: HALT\n .LONG %s\n .END START\n' "$1" >deep.mar; }
+
+source_of "$(times '<' 1000)"
+expect 'brackets that nothing closes' '4 vax: source 1 line 2 fault 4' "$(small build deep.mar)"
+source_of "$(times '<' 500)1$(times '>' 500)"
+expect 'brackets in one another' '0 ' "$(small build deep.mar)"
+source_of "$(times - 1000)1"
+expect 'signs before a term' '0 ' "$(small build deep.mar)"
+source_of "$(times '^C' 500)1"
+expect 'complements of a term' '0 ' "$(small build deep.mar)"
+source_of "^M<$(times 'R2,' 330)R3>"
+expect 'registers of a mask' '0 ' "$(small build deep.mar)"
+rm -f deep.mar
+
+# ---- Files that programs write are read ----
+
+# What `build` writes of four sections is longer than a source may be.
+for n in 1 2 3 4; do printf '.PSECT S%d\n.BLKB 1048576\n' "$n"; done >wide.mar
+printf '.PSECT CODE,NOWRT\n.ENTRY START,^M<>\nRET\n.END START\n' >>wide.mar
+expect 'an image of four wide sections' '0 ' "$(answer build wide.mar)"
+mv out wide.img
+expect 'its bytes' longer "$([ "$(wc -c <wide.img)" -gt 4194304 ] && echo longer)"
+expect 'a run of it' '0 ENDING HALT' "$(answer run wide.img)"
+mv err wide.err
+expect 'the same as of its source' '0 ENDING HALT same' "$(answer run wide.mar) $(same wide.err err)"
+expect 'it is built of itself' '0  same' "$(answer build wide.img) $(same wide.img out)"
+cat wide.mar - </dev/null >long.mar
+head -c 4194304 /dev/zero | tr '\0' ';' >>long.mar
+expect 'a source that is too long' '3 vax: large long.mar' "$(answer run long.mar)"
+rm -f wide.img wide.err long.mar
+
+# A record that is longer than a source may be goes for a schedule.
+printf '.PSECT DATA\nD: .LONG 0\n.PSECT CODE,NOWRT\n.ENTRY START,^M<>\nMOVL #150000,R6\n10$: INCL D\nSOBGTR R6,10$\nRET\n.END START\n' >long.mar
+echo 'each 4 all' >each
+expect 'a long run under a schedule' '0 ENDING HALT' "$(answer run long.mar --schedule each --record on)"
+mv err long.err
+mv vax.rec long.rec
+expect 'the bytes of its record' longer "$([ "$(wc -c <long.rec)" -gt 4194304 ] && echo longer)"
+expect 'the same run under its record' '0 ENDING HALT same same' "$(answer run long.mar --schedule long.rec --record on) $(same long.err err) $(same long.rec vax.rec)"
+expect 'a record for a script' '3 vax: large long.rec' "$(answer console long.mar --script long.rec)"
+expect 'a record for an input' '3 vax: large long.rec' "$(answer run long.mar --input long.rec)"
+rm -f long.mar long.err long.rec each vax.rec vax.pag
+
 echo "$passed passed, $failed failed"
 [ "$failed" -eq 0 ]

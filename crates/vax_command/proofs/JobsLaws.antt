@@ -22,7 +22,7 @@ use Rattle.vax_cli.specs.Words.{Text}
 use Rattle.vax_command.specs.Around.{HasFailed, Outside}
 use Rattle.vax_command.specs.Ends.{Admits, Ends}
 use Rattle.vax_command.specs.Jobs.{HasJobsTexts, IsJobsAnswer, IsOrderFault, JobsRan, JobsSetup, JobsWent, Users, jobs_answer, jobs_answer_to, jobs_files, jobs_setup}
-use Rattle.vax_command.specs.Reading.{Reads, file_limit, given, option_of}
+use Rattle.vax_command.specs.Reading.{Reads, file_limit, given, of_programs, option_of}
 use Rattle.vax_command.specs.Status.{refusal_growth}
 use Rattle.vax_command.specs.declared.status.Status.{Status}
 use Rattle.vax_command.specs.declared.status.Status.TheVariants.{Done, Turns, PageFault, NoMemory}
@@ -30,10 +30,10 @@ use Rattle.vax_command.proofs.JobsAlone.{AreSilent, all_alone, are_silent}
 use Rattle.vax_command.proofs.LoadLaws.{behind-given, drop-seam, first_of-given, option_of-given, reads_both}
 
 -- the programs, and behind them the input and the order
-pub has_jobs : (c : Option Directory) (names programs : List Text) (o : JobsOptions) (input order : Option Text) → length programs ≡ length names → is_some input ≡ is_some o.input → is_some order ≡ is_some o.order → Reads c names (Ok programs) → Reads c (jobs_files o) (Ok (given input ++ given order)) → HasJobsTexts c names o (record { programs = programs; input = unwrap_or input []; order = order })
+pub has_jobs : (c : Option Directory) (names programs : List Text) (o : JobsOptions) (input order : Option Text) → length programs ≡ length names → is_some input ≡ is_some o.input → is_some order ≡ is_some o.order → Reads c (of_programs names) (Ok programs) → Reads c (jobs_files o) (Ok (given input ++ given order)) → HasJobsTexts c names o (record { programs = programs; input = unwrap_or input []; order = order })
 has_jobs c names programs o input order e i k reads others = record {
   files = programs ++ (given input ++ given order);
-  read = reads_both c names (jobs_files o) programs (given input ++ given order) reads others;
+  read = reads_both c (of_programs names) (jobs_files o) programs (given input ++ given order) reads others;
   are =
       let last : option_of o.order (given order) ≡ order = ap (option_of o.order) (sym (append-nil (given order))) ∙ option_of-given o.order order [] k in
       rw (

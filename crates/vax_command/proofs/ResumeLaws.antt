@@ -20,7 +20,7 @@ use Rattle.vax_cli.specs.Words.{Options, Text}
 use Rattle.vax_command.specs.Around.{Outside}
 use Rattle.vax_command.specs.Course.{IsReady, WentOn}
 use Rattle.vax_command.specs.Ends.{Ends, EndsSo}
-use Rattle.vax_command.specs.Reading.{EndsBy, HasTexts, Reads, Texts, joined_reads, of_options, read_files}
+use Rattle.vax_command.specs.Reading.{EndsBy, HasTexts, Reads, Sought, Texts, joined_reads, of_options, read_files}
 use Rattle.vax_command.specs.Resuming.{AreAreas, HasResumed, IsUnfit, resumed_course}
 use Rattle.vax_command.specs.Running.{IsFaulty}
 use Rattle.vax_command.specs.Status.{refusal_growth}
@@ -43,16 +43,16 @@ first_missing : (name : Text) (r : Result Text FilesFault) (why : Text × FilesF
 first_missing name (Err fault) why rest e = e
 first_missing name (Ok found) why rest e = cc
 
-reads_saved : (c : Option Directory) (name : Text) (names : List Text) (bytes : Text) (files : List Text) → ReadsOne c name saved_limit (Ok (bytes ∷ [])) → Reads c names (Ok files) → ReadsWanted c (record { saved = Some name; names = names }) (Ok (bytes ∷ files))
+reads_saved : (c : Option Directory) (name : Text) (names : List Sought) (bytes : Text) (files : List Text) → ReadsOne c name saved_limit (Ok (bytes ∷ [])) → Reads c names (Ok files) → ReadsWanted c (record { saved = Some name; names = names }) (Ok (bytes ∷ files))
 reads_saved None name names bytes files one others = tt
 reads_saved (Some d) name names bytes files one others =
     ap (joined_reads name (read_result d name saved_limit)) others ∙ first_there name (read_result d name saved_limit) bytes (Ok files) one
 
-stops_first : (c : Option Directory) (name : Text) (names : List Text) (why : Text × FilesFault) → ReadsOne c name saved_limit (Err why) → ReadsWanted c (record { saved = Some name; names = names }) (Err why)
+stops_first : (c : Option Directory) (name : Text) (names : List Sought) (why : Text × FilesFault) → ReadsOne c name saved_limit (Err why) → ReadsWanted c (record { saved = Some name; names = names }) (Err why)
 stops_first None name names why one = tt
 stops_first (Some d) name names why one = first_missing name (read_result d name saved_limit) why (read_files d names) one
 
-stops_then : (c : Option Directory) (name : Text) (names : List Text) (bytes : Text) (why : Text × FilesFault) → ReadsOne c name saved_limit (Ok (bytes ∷ [])) → Reads c names (Err why) → ReadsWanted c (record { saved = Some name; names = names }) (Err why)
+stops_then : (c : Option Directory) (name : Text) (names : List Sought) (bytes : Text) (why : Text × FilesFault) → ReadsOne c name saved_limit (Ok (bytes ∷ [])) → Reads c names (Err why) → ReadsWanted c (record { saved = Some name; names = names }) (Err why)
 stops_then None name names bytes why one others = tt
 stops_then (Some d) name names bytes why one others =
     ap (joined_reads name (read_result d name saved_limit)) others ∙ first_there name (read_result d name saved_limit) bytes (Err why) one
@@ -64,12 +64,12 @@ has_saved c d name options bytes texts same one h = record {
   are = h.are;
 }
 
-pub ends_saved : (rose later : Type 0) (c : Option Directory) (name : Text) (names : List Text) (status : Status) → (rose → later) → EndsBy rose (λ why. ReadsOne c name saved_limit (Err why)) status
+pub ends_saved : (rose later : Type 0) (c : Option Directory) (name : Text) (names : List Sought) (status : Status) → (rose → later) → EndsBy rose (λ why. ReadsOne c name saved_limit (Err why)) status
     → EndsBy later (λ why. ReadsWanted c (record { saved = Some name; names = names }) (Err why)) status
 ends_saved rose later c name names status up e =
     ends_more rose later (λ why. ReadsOne c name saved_limit (Err why)) (λ why. ReadsWanted c (record { saved = Some name; names = names }) (Err why)) status up (λ why. stops_first c name names why) e
 
-pub ends_behind : (rose later : Type 0) (c d : Option Directory) (name : Text) (names : List Text) (bytes : Text) (status : Status) → d ≡ c → (rose → later) → ReadsOne c name saved_limit (Ok (bytes ∷ [])) → EndsBy rose (λ why. Reads d names (Err why)) status
+pub ends_behind : (rose later : Type 0) (c d : Option Directory) (name : Text) (names : List Sought) (bytes : Text) (status : Status) → d ≡ c → (rose → later) → ReadsOne c name saved_limit (Ok (bytes ∷ [])) → EndsBy rose (λ why. Reads d names (Err why)) status
     → EndsBy later (λ why. ReadsWanted c (record { saved = Some name; names = names }) (Err why)) status
 ends_behind rose later c d name names bytes status same up one e =
     ends_more rose later (λ why. Reads c names (Err why)) (λ why. ReadsWanted c (record { saved = Some name; names = names }) (Err why)) status up (λ why. stops_then c name names bytes why one)

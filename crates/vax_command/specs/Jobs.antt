@@ -1,5 +1,5 @@
 -- What several programs come to that run together.
-use Rattle.std.specs.Prelude.{ℕ, suc, ◌≡◌, ◌+◌, ◌⊎◌, List, [], ◌++◌, length, take, drop, Option, None, Some, Ok, Err}
+use Rattle.std.specs.Prelude.{ℕ, suc, ◌≡◌, ◌⊎◌, List, [], ◌++◌, length, take, drop, Option, None, Some, Ok, Err}
 use Rattle.vax_outside.specs.Blocks.{BlockFile}
 use Rattle.vax_outside.specs.Channels.{Channels, unsaved}
 use Rattle.vax_outside.specs.Directory.{Directory}
@@ -19,15 +19,16 @@ use Rattle.vax_cli.specs.Words.{Text}
 use Rattle.vax_command.specs.Around.{Change, HasFailed, Outside}
 use Rattle.vax_command.specs.Ends.{EndsSo}
 use Rattle.vax_command.specs.JobsAlone.{AreAlone}
-use Rattle.vax_command.specs.Reading.{Reads, behind, first_of, given, option_of}
+use Rattle.vax_command.specs.Reading.{Reads, Sought, behind, first_of, of_programs, option_of, sought}
 use Rattle.vax_command.specs.Running.{LacksMemory}
 use Rattle.vax_command.specs.Status.{refusal_growth}
+use Rattle.vax_command.specs.declared.load.Role.TheVariants as roles
 use Rattle.vax_command.specs.declared.status.Status.{Status}
 use Rattle.vax_command.specs.declared.status.Status.TheVariants.{Done, Usage, Missing, Large, Refused, Macros, Link, Schedule, Image as BadImage, Turns, PageFault, ReadFault, WriteFault, NoMemory, Saved, Order, NotHalted, Unsuccessful, Unfinished, LineFault, Told}
 
 -- the files of their options: the input and the order
-abbrev pub jobs_files : JobsOptions → List Text
-jobs_files options = given options.input ++ given options.order
+abbrev pub jobs_files : JobsOptions → List Sought
+jobs_files options = sought roles.Other options.input ++ sought roles.Other options.order
 
 -- the texts of the programs, of their input and of their order, if it is given
 pub record JobsTexts : Type 0 where
@@ -43,10 +44,10 @@ jobs_texts_of count options files = record {
   order = option_of options.order (behind options.input (drop count files));
 }
 
--- reading these names and those of the options gives these texts
+-- reading the programs of these names and the files of the options gives these texts
 pub record HasJobsTexts (contents : Option Directory) (names : List Text) (options : JobsOptions) (texts : JobsTexts) : Type 0 where
   pub files : List Text
-  pub read : Reads contents (names ++ jobs_files options) (Ok files)
+  pub read : Reads contents (of_programs names ++ jobs_files options) (Ok files)
   pub are : jobs_texts_of (length names) options files ≡ texts
 
 -- the programs in user mode, and the system under which each runs

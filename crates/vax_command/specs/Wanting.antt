@@ -4,7 +4,7 @@ use Rattle.vax_outside.specs.Directory.{Directory, read_result}
 use Rattle.vax_outside.specs.declared.traits.FilesFault.{FilesFault}
 use Rattle.vax_cli.specs.Words.{Options, Text}
 use Rattle.vax_command.specs.Around.{Change, HasFailed}
-use Rattle.vax_command.specs.Reading.{EndsBy, Texts, joined_reads, of_options, read_files, texts_of}
+use Rattle.vax_command.specs.Reading.{EndsBy, Sought, Texts, joined_reads, of_options, read_files, texts_of}
 use Rattle.vax_command.specs.declared.status.Status.{Status}
 
 -- the most bytes of the file of a saved state
@@ -14,10 +14,10 @@ saved_limit = 67108864
 -- the file of a saved state, if there is one, and the others
 pub record Wanted : Type 0 where
   pub saved : Option Text
-  pub names : List Text
+  pub names : List Sought
 
 -- none is that of a saved state
-abbrev pub plain : List Text → Wanted
+abbrev pub plain : List Sought → Wanted
 plain names = record { saved = None; names = names }
 
 -- what the read of one file gives that has at most so many bytes

@@ -9,10 +9,11 @@ ghost use Rattle.vax_command.specs.Around.{change, outside};
 ghost use Rattle.vax_command.specs.Ends.{Admits};
 ghost use Rattle.vax_command.specs.Jobs.{HasJobsTexts, IsOrderFault, JobsRan, jobs_answer_to, jobs_files, order_text};
 ghost use Rattle.vax_command.specs.JobsView.{AreTogether, IsPreparedFor, jobs_texts_seen, together_seen};
-ghost use Rattle.vax_command.specs.Reading.{ReadEnds, ReadsOnly, file_limit};
+ghost use Rattle.vax_command.specs.declared.load.Role.TheVariants as Role;
+ghost use Rattle.vax_command.specs.Reading.{ReadEnds, ReadsOnly, all_sought, file_limit};
 ghost use Rattle.vax_command.specs.ReadingView.{bytes_of, texts};
 
-use crate::load::{load_both, load_files, or_empty};
+use crate::load::{Role, load_both, load_files, or_empty};
 use crate::refusal::refuse;
 use crate::status::Status;
 use std::alloc::Global;
@@ -51,10 +52,12 @@ pub fn load_jobs<S: Files>(
     ensures ok { IfOk result (λ r. HasJobsTexts (S.contents files.old) (names_of names.now)
         (jobs_options options.now) (jobs_texts_seen (texts r.0.items) r.1)) }
     ensures ends { IfErr result (λ status. ReadEnds (change S.faults S.contents files.old files.new)
-        (names_of names.now ++ jobs_files (jobs_options options.now)) status) }
+        (all_sought Role.Program (names_of names.now) ++ jobs_files (jobs_options options.now))
+        status) }
 {
-    let programs = load_files(alloc, names, files)?;
-    let (input, order) = load_both(alloc, options.input, options.order, files)?;
+    let programs = load_files(alloc, names, Role::Program, files)?;
+    let others = (Role::Other, Role::Other);
+    let (input, order) = load_both(alloc, options.input, options.order, others, files)?;
     let input = or_empty(alloc, input);
     Ok((programs, JobsGiven { input, order }))
 }

@@ -17,7 +17,7 @@ mod status;
 mod trace;
 
 pub use jobs::{JobsGiven, Together, load_jobs, run_jobs};
-pub use load::{Given, load_files, load_options, load_run};
+pub use load::{Given, Role, load_files, load_options, load_run};
 pub use name::Name;
 pub use programs::Programs;
 pub use refusal::refuse;

@@ -1,9 +1,10 @@
 //! Reads them in order.
-ghost use Rattle.std.specs.Prelude.{◌≡◌, ◌⊎◌, ◌≤◌, ◌++◌, [], ◌∷◌, Ok, IfOk, IfErr, IfSome, is_some, length, unwrap_or};
+ghost use Rattle.std.specs.Prelude.{ℕ, ◌≡◌, ◌⊎◌, ◌≤◌, ◌++◌, [], ◌∷◌, Ok, IfOk, IfErr, IfSome, is_some, length, unwrap_or};
 ghost use Rattle.std.specs.Option.{option_copied};
 ghost use Rattle.vax_cli.specs.Said.{names_of, options as said_options};
 ghost use Rattle.vax_command.specs.Around.{change};
-ghost use Rattle.vax_command.specs.Reading.{HasTexts, Reads, ReadEnds, ReadsOnly, file_limit, given, of_options};
+ghost use Rattle.vax_command.specs.declared.load.Role.TheVariants as Role;
+ghost use Rattle.vax_command.specs.Reading.{HasTexts, Reads, ReadEnds, ReadsOnly, all_sought, file_limit, given, is_linked, large_limit, limit_for, of_options, one_sought, sought};
 ghost use Rattle.vax_command.specs.ReadingView.{bytes_of, given_seen, texts};
 ghost use Rattle.vax_command.specs.Wanting.{OneEnds, ReadsOne};
 
@@ -13,8 +14,22 @@ use std::alloc::Global;
 use vax_cli::Options;
 use vax_outside::{Files, FilesFault};
 
-/// The most bytes of a file.
+/// The most bytes of a source, of the console's input, and of any file that the next limit isn't for.
 const FILE_LIMIT: u32 = 4_194_304;
+
+/// The most bytes of a linked program and of a schedule.
+const LARGE_LIMIT: u32 = 67_108_864;
+
+/// What a file is read for, by which goes how many bytes it may have.
+#[derive(Clone, Copy, PartialEq, Eq)]
+pub enum Role {
+    /// A program, or the system under which one runs: a linked program by its first bytes, or a source.
+    Program,
+    /// A schedule.
+    Schedule,
+    /// Any other.
+    Other,
+}
 
 /// The files of a run's options: the system, if it is given; the console's input, the schedule and a session's script, each
 /// empty where it isn't.
@@ -69,34 +84,63 @@ pub(crate) fn load_within<S: Files>(
     }
 }
 
-/// Reads a file.
-fn load<S: Files>(alloc: Global, name: &str, files: &mut S) -> Result<Vec<u8>, Status>
-    ensures only { ReadsOnly (change S.faults S.contents files.old files.new) result }
-    ensures bound { IfOk result (λ v. length v.items ≤ file_limit) }
-    ensures ok { IfOk result (λ v.
-        Reads (S.contents files.old) (name.now ∷ []) (Ok (v.items ∷ []))) }
-    ensures ends { IfErr result (λ status. ReadEnds (change S.faults S.contents files.old files.new)
-        (name.now ∷ []) status) }
+/// Whether a file begins as an image or as an executable.
+fn is_linked(bytes: &[u8]) -> bool
+    ensures { result ≡ is_linked bytes.now }
 {
-    load_within(alloc, name, FILE_LIMIT, files)
+    bytes.starts_with(b"VAXI") || bytes.starts_with(b"\x7FELF")
+}
+
+/// Reads the file of a program. It may have more bytes than a source where it begins as an image or as an executable.
+#[tactic(auto, using(crate::proofs::LoadLaws::linked_fits, crate::proofs::LoadLaws::short_fits, crate::proofs::LoadLaws::linked_there, crate::proofs::LoadLaws::short_there, crate::proofs::LoadLaws::program_large, crate::proofs::LoadLaws::program_ends))]
+fn load_program<S: Files>(alloc: Global, name: &str, files: &mut S) -> Result<Vec<u8>, Status>
+    ensures only { ReadsOnly (change S.faults S.contents files.old files.new) result }
+    ensures bound { IfOk result (λ v. length v.items ≤ limit_for Role.Program v.items) }
+    ensures ok { IfOk result (λ v.
+        Reads (S.contents files.old) (one_sought Role.Program name.now) (Ok (v.items ∷ []))) }
+    ensures ends { IfErr result (λ status. ReadEnds (change S.faults S.contents files.old files.new)
+        (one_sought Role.Program name.now) status) }
+{
+    let bytes = load_within(alloc, name, LARGE_LIMIT, files)?;
+    if is_linked(&bytes) || bytes.len() <= FILE_LIMIT as usize {
+        return Ok(bytes);
+    }
+    Err(large(alloc, name))
+}
+
+/// Reads a file.
+fn load<S: Files>(alloc: Global, name: &str, role: Role, files: &mut S) -> Result<Vec<u8>, Status>
+    ensures only { ReadsOnly (change S.faults S.contents files.old files.new) result }
+    ensures bound { IfOk result (λ v. length v.items ≤ limit_for role v.items) }
+    ensures ok { IfOk result (λ v.
+        Reads (S.contents files.old) (one_sought role name.now) (Ok (v.items ∷ []))) }
+    ensures ends { IfErr result (λ status. ReadEnds (change S.faults S.contents files.old files.new)
+        (one_sought role name.now) status) }
+{
+    match role {
+        Role::Program => load_program(alloc, name, files),
+        Role::Schedule => load_within(alloc, name, LARGE_LIMIT, files),
+        Role::Other => load_within(alloc, name, FILE_LIMIT, files),
+    }
 }
 
 /// Reads files in order, up to the first that can't be read.
 pub fn load_files<S: Files>(
     alloc: Global,
     names: &[&str],
+    role: Role,
     files: &mut S,
 ) -> Result<Vec<Vec<u8>>, Status>
     ensures only { ReadsOnly (change S.faults S.contents files.old files.new) result }
     ensures count { IfOk result (λ v. length v.items ≡ length names.now) }
     ensures ok { IfOk result (λ v.
-        Reads (S.contents files.old) (names_of names.now) (Ok (texts v.items))) }
+        Reads (S.contents files.old) (all_sought role (names_of names.now)) (Ok (texts v.items))) }
     ensures ends { IfErr result (λ status. ReadEnds (change S.faults S.contents files.old files.new)
-        (names_of names.now) status) }
+        (all_sought role (names_of names.now)) status) }
 {
     let mut all = Vec::new(alloc);
     for name in names {
-        let bytes = load(alloc, name, files)?;
+        let bytes = load(alloc, name, role, files)?;
         if all.push(bytes).is_err() {
             return Err(Status::NoMemory);
         }
@@ -108,19 +152,20 @@ pub fn load_files<S: Files>(
 fn load_option<S: Files>(
     alloc: Global,
     name: Option<&str>,
+    role: Role,
     files: &mut S,
 ) -> Result<Option<Vec<u8>>, Status>
     ensures only { ReadsOnly (change S.faults S.contents files.old files.new) result }
-    ensures bound { IfOk result (λ o. IfSome o (λ v. length v.items ≤ file_limit)) }
+    ensures bound { IfOk result (λ o. IfSome o (λ v. length v.items ≤ limit_for role v.items)) }
     ensures given { IfOk result (λ o. is_some o ≡ is_some name.entry) }
     ensures ok { IfOk result (λ o. Reads (S.contents files.old)
-        (given (option_copied name.entry)) (Ok (given (bytes_of o)))) }
+        (sought role (option_copied name.entry)) (Ok (given (bytes_of o)))) }
     ensures ends { IfErr result (λ status. ReadEnds (change S.faults S.contents files.old files.new)
-        (given (option_copied name.entry)) status) }
+        (sought role (option_copied name.entry)) status) }
 {
     match name {
         None => Ok(None),
-        Some(name) => Ok(Some(load(alloc, name, files)?)),
+        Some(name) => Ok(Some(load(alloc, name, role, files)?)),
     }
 }
 
@@ -129,29 +174,31 @@ pub(crate) fn load_both<S: Files>(
     alloc: Global,
     first: Option<&str>,
     second: Option<&str>,
+    roles: (Role, Role),
     files: &mut S,
 ) -> Result<(Option<Vec<u8>>, Option<Vec<u8>>), Status>
     ensures only { ReadsOnly (change S.faults S.contents files.old files.new) result }
-    ensures bounds { IfOk result (λ r. IfSome r.0 (λ v. length v.items ≤ file_limit)
-        × IfSome r.1 (λ v. length v.items ≤ file_limit)) }
+    ensures bounds { IfOk result (λ r. IfSome r.0 (λ v. length v.items ≤ limit_for roles.0 v.items)
+        × IfSome r.1 (λ v. length v.items ≤ limit_for roles.1 v.items)) }
     ensures given { IfOk result (λ r.
         (is_some r.0 ≡ is_some first.entry) × (is_some r.1 ≡ is_some second.entry)) }
     ensures ok { IfOk result (λ r. Reads (S.contents files.old)
-        (given (option_copied first.entry) ++ given (option_copied second.entry))
+        (sought roles.0 (option_copied first.entry) ++ sought roles.1 (option_copied second.entry))
         (Ok (given (bytes_of r.0) ++ given (bytes_of r.1)))) }
     ensures ends { IfErr result (λ status. ReadEnds (change S.faults S.contents files.old files.new)
-        (given (option_copied first.entry) ++ given (option_copied second.entry)) status) }
+        (sought roles.0 (option_copied first.entry) ++ sought roles.1 (option_copied second.entry))
+        status) }
 {
-    let one = load_option(alloc, first, files)?;
-    let other = load_option(alloc, second, files)?;
+    let one = load_option(alloc, first, roles.0, files)?;
+    let other = load_option(alloc, second, roles.1, files)?;
     Ok((one, other))
 }
 
 /// The bytes of a file, none where it isn't given.
 pub(crate) fn or_empty(alloc: Global, file: Option<Vec<u8>>) -> Vec<u8>
-    requires bound { IfSome file (λ v. length v.items ≤ file_limit) }
     ensures bytes { result.items ≡ unwrap_or (bytes_of file) [] }
-    ensures bound { length result.items ≤ file_limit }
+    ensures bound { (limit : ℕ) → IfSome file (λ v. length v.items ≤ limit)
+        → length result.items ≤ limit }
 {
     match file {
         Some(bytes) => bytes,
@@ -168,15 +215,17 @@ pub fn load_options<S: Files>(
 ) -> Result<Given, Status>
     ensures only { ReadsOnly (change S.faults S.contents files.old files.new) result }
     ensures input { IfOk result (λ g. length g.input.items ≤ file_limit) }
-    ensures schedule { IfOk result (λ g. length g.schedule.items ≤ file_limit) }
+    ensures schedule { IfOk result (λ g. length g.schedule.items ≤ large_limit) }
     ensures script { IfOk result (λ g. length g.script.items ≤ file_limit) }
     ensures ok { IfOk result (λ g. HasTexts (S.contents files.old) []
         (said_options options.now) (option_copied script.entry) (given_seen [] g)) }
     ensures ends { IfErr result (λ status. ReadEnds (change S.faults S.contents files.old files.new)
         (of_options (said_options options.now) (option_copied script.entry)) status) }
 {
-    let (system, input) = load_both(alloc, options.system, options.input, files)?;
-    let (schedule, script) = load_both(alloc, options.schedule, script, files)?;
+    let inputs = (Role::Program, Role::Other);
+    let (system, input) = load_both(alloc, options.system, options.input, inputs, files)?;
+    let rules = (Role::Schedule, Role::Other);
+    let (schedule, script) = load_both(alloc, options.schedule, script, rules, files)?;
     Ok(Given {
         system,
         input: or_empty(alloc, input),
@@ -196,16 +245,16 @@ pub fn load_run<S: Files>(
     ensures only { ReadsOnly (change S.faults S.contents files.old files.new) result }
     ensures count { IfOk result (λ r. length r.0.items ≡ length names.now) }
     ensures input { IfOk result (λ r. length r.1.input.items ≤ file_limit) }
-    ensures schedule { IfOk result (λ r. length r.1.schedule.items ≤ file_limit) }
+    ensures schedule { IfOk result (λ r. length r.1.schedule.items ≤ large_limit) }
     ensures script { IfOk result (λ r. length r.1.script.items ≤ file_limit) }
     ensures ok { IfOk result (λ r. HasTexts (S.contents files.old) (names_of names.now)
         (said_options options.now) (option_copied script.entry)
         (given_seen (texts r.0.items) r.1)) }
     ensures ends { IfErr result (λ status. ReadEnds (change S.faults S.contents files.old files.new)
-        (names_of names.now ++ of_options (said_options options.now) (option_copied script.entry))
-        status) }
+        (all_sought Role.Program (names_of names.now)
+        ++ of_options (said_options options.now) (option_copied script.entry)) status) }
 {
-    let programs = load_files(alloc, names, files)?;
+    let programs = load_files(alloc, names, Role::Program, files)?;
     let given = load_options(alloc, options, script, files)?;
     Ok((programs, given))
 }

@@ -8,7 +8,7 @@ ghost use Rattle.vax_save.specs.Restored.{HasRestored};
 ghost use Rattle.vax_cli.specs.Said.{AreWithin, options as said_options};
 ghost use Rattle.vax_command.specs.Around.{change, outside};
 ghost use Rattle.vax_command.specs.Ends.{Admits};
-ghost use Rattle.vax_command.specs.Reading.{ReadsOnly, file_limit};
+ghost use Rattle.vax_command.specs.Reading.{ReadsOnly, large_limit};
 ghost use Rattle.vax_command.specs.ReadingView.{given_seen};
 ghost use Rattle.vax_command.specs.Resuming.{HasResumed, IsUnfit};
 ghost use Rattle.vax_command.specs.Room.{items_of};
@@ -38,7 +38,7 @@ pub fn load_saved<S: Files>(
 ) -> Result<(Vec<u8>, Given), Status>
     ensures only { ReadsOnly (change S.faults S.contents files.old files.new) result }
     ensures saved { IfOk result (λ r. length r.0.items ≤ saved_limit) }
-    ensures schedule { IfOk result (λ r. length r.1.schedule.items ≤ file_limit) }
+    ensures schedule { IfOk result (λ r. length r.1.schedule.items ≤ large_limit) }
     ensures ok { IfOk result (λ r. HasSaved (S.contents files.old) name.now
         (said_options options.now) r.0.items (given_seen [] r.1)) }
     ensures ends { IfErr result (λ status. WantedEnds
@@ -59,7 +59,7 @@ fn revive(
     frames: u32,
 ) -> Result<(Machine, Schedule), Status>
     requires saved { length saved.now ≤ saved_limit }
-    requires schedule { length schedule.now ≤ file_limit }
+    requires schedule { length schedule.now ≤ large_limit }
     requires some { 64 ≤ frames }
     requires few { frames ≤ 32768 }
     ensures restored { IfOk result (λ r. HasRestored saved.now frames (engine r.0)) }
@@ -89,7 +89,7 @@ fn revive_run(
     options: &Options<'_>,
 ) -> Result<(Machine, Schedule, Room), Status>
     requires saved { length saved.now ≤ saved_limit }
-    requires schedule { length schedule.now ≤ file_limit }
+    requires schedule { length schedule.now ≤ large_limit }
     requires within { AreWithin (said_options options.now) }
     ensures restored { IfOk result (λ r. HasRestored saved.now options.now.frames (engine r.0)) }
     ensures counted { IfOk result (λ r. (engine r.0).steps ≤ 10 ^ 18) }
@@ -118,7 +118,7 @@ pub fn resume_run<K: Sink, F: PageFile>(
     pages: &mut F,
 ) -> Status
     requires saved { length saved.now ≤ saved_limit }
-    requires schedule { length schedule.now ≤ file_limit }
+    requires schedule { length schedule.now ≤ large_limit }
     requires within { AreWithin (said_options options.now) }
     ensures resumed { HasResumed
         (outside (change K.faults K.contents sink.old sink.new)

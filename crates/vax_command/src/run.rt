@@ -13,7 +13,7 @@ ghost use Rattle.vax_command.specs.Ends.{Admits, Ends, EndsSo};
 ghost use Rattle.vax_command.specs.Course.{IsReady, WentOn};
 ghost use Rattle.vax_command.specs.Fresh.{IsPrepared, IsReported, machine_report};
 ghost use Rattle.vax_command.specs.Loaded.{AreSound, loaded_seen};
-ghost use Rattle.vax_command.specs.Reading.{file_limit};
+ghost use Rattle.vax_command.specs.Reading.{file_limit, large_limit};
 ghost use Rattle.vax_command.specs.Running.{IsFaulty, Ran};
 ghost use Rattle.vax_command.specs.Room.{ReadsFor, items_of};
 ghost use Rattle.vax_command.specs.Went.{limits_of};
@@ -136,7 +136,7 @@ pub(crate) fn execute<K: Sink, F: PageFile>(
 
 /// The schedule of a text, or the answer to its first fault.
 pub(crate) fn plan(alloc: Global, text: &[u8], space: &Space) -> Result<Schedule, Status>
-    requires { length text.now ≤ file_limit }
+    requires { length text.now ≤ large_limit }
     ensures planned { IfOk result (λ schedule. Denotes space.now text.now schedule) }
     ensures fault { IfErr result (λ status.
         IsFaulty space.now text.now status ⊎ (status ≡ Status.NoMemory)) }
@@ -159,7 +159,7 @@ pub fn prepare(
 ) -> Result<(Machine, Schedule), Status>
     requires sound { AreSound programs.now }
     requires input { length input.items ≤ file_limit }
-    requires schedule { length schedule.now ≤ file_limit }
+    requires schedule { length schedule.now ≤ large_limit }
     requires some { 64 ≤ frames }
     requires few { frames ≤ 32768 }
     ensures prepared { IfOk result (λ r. IsPrepared (engine r.0) frames
@@ -215,7 +215,7 @@ pub(crate) fn prepare_run(
 ) -> Result<(Machine, Schedule, Room), Status>
     requires sound { AreSound programs.now }
     requires input { length input.items ≤ file_limit }
-    requires schedule { length schedule.now ≤ file_limit }
+    requires schedule { length schedule.now ≤ large_limit }
     requires within { AreWithin (said_options options.now) }
     ensures prepared { IfOk result (λ r. IsPrepared (engine r.0) options.now.frames
         (Start programs.now.system programs.now.user input.items)
@@ -257,7 +257,7 @@ pub fn run_programs<K: Sink, F: PageFile>(
 ) -> Status
     requires sound { AreSound programs.now }
     requires input { length input.items ≤ file_limit }
-    requires schedule { length schedule.now ≤ file_limit }
+    requires schedule { length schedule.now ≤ large_limit }
     requires within { AreWithin (said_options options.now) }
     ensures ran { Ran
         (outside (change K.faults K.contents sink.old sink.new)

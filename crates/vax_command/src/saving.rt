@@ -12,7 +12,7 @@ ghost use Rattle.vax_command.specs.Around.{change, outside};
 ghost use Rattle.vax_command.specs.Ends.{Admits, Ends, EndsSo};
 ghost use Rattle.vax_command.specs.Fresh.{IsFresh, machine_report};
 ghost use Rattle.vax_command.specs.Loaded.{AreSound, loaded_seen};
-ghost use Rattle.vax_command.specs.Reading.{file_limit};
+ghost use Rattle.vax_command.specs.Reading.{file_limit, large_limit};
 ghost use Rattle.vax_command.specs.Saving.{AnswersSave, HasSavedRun, SaveWent, SavesAt};
 ghost use Rattle.vax_cli.specs.declared.command.Strictness.TheVariants.{Off};
 
@@ -115,7 +115,7 @@ pub fn save_run<K: Sink, F: PageFile>(
 ) -> Status
     requires sound { AreSound programs.now }
     requires input { length input.items ≤ file_limit }
-    requires schedule { length schedule.now ≤ file_limit }
+    requires schedule { length schedule.now ≤ large_limit }
     requires within { AreWithin (said_options options.now) }
     ensures saved { HasSavedRun
         (outside (change K.faults K.contents sink.old sink.new)

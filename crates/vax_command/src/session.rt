@@ -8,7 +8,7 @@ ghost use Rattle.vax_machine.specs.Meaning.{engine};
 ghost use Rattle.vax_script.specs.Requests.{readings};
 ghost use Rattle.vax_console.specs.Turns.{setting};
 ghost use Rattle.vax_cli.specs.Said.{AreWithin, options as said_options};
-ghost use Rattle.vax_command.specs.Reading.{file_limit};
+ghost use Rattle.vax_command.specs.Reading.{file_limit, large_limit};
 ghost use Rattle.vax_command.specs.Fresh.{IsFresh};
 ghost use Rattle.vax_command.specs.Loaded.{AreSound, loaded_seen};
 ghost use Rattle.vax_command.specs.Around.{change, outside};
@@ -75,7 +75,7 @@ pub fn hold_session<K: Sink, F: PageFile>(
 ) -> Status
     requires sound { AreSound programs.now }
     requires input { length input.items ≤ file_limit }
-    requires schedule { length schedule.now ≤ file_limit }
+    requires schedule { length schedule.now ≤ large_limit }
     requires within { AreWithin (said_options options.now) }
     ensures held { Held
         (outside (change K.faults K.contents sink.old sink.new)

@@ -24,7 +24,7 @@ pub enum Status {
     Usage,
     /// There is no file of this name.
     Missing(Name),
-    /// The file of this name has more than 4,194,304 bytes.
+    /// The file of this name has more than 4,194,304 bytes, or one that may be longer more than 67,108,864.
     Large(Name),
     /// The first fault of a source: its file, counted from 1, its line and its kind.
     Refused { file: u8, line: u32, kind: u8 },

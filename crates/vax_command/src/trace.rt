@@ -11,7 +11,7 @@ ghost use Rattle.vax_command.specs.Around.{change, outside};
 ghost use Rattle.vax_command.specs.Ends.{Admits, EndsSo};
 ghost use Rattle.vax_command.specs.Fresh.{IsFresh};
 ghost use Rattle.vax_command.specs.Loaded.{AreSound, loaded_seen};
-ghost use Rattle.vax_command.specs.Reading.{file_limit};
+ghost use Rattle.vax_command.specs.Reading.{file_limit, large_limit};
 ghost use Rattle.vax_command.specs.Room.{items_of};
 ghost use Rattle.vax_command.specs.Tracing.{Traces, Went, watch_of};
 ghost use Rattle.vax_command.specs.TracingEnds.{last_to, status_to};
@@ -136,7 +136,7 @@ pub fn trace_programs<K: Sink, F: PageFile>(
 ) -> Status
     requires sound { AreSound programs.now }
     requires input { length input.items ≤ file_limit }
-    requires schedule { length schedule.now ≤ file_limit }
+    requires schedule { length schedule.now ≤ large_limit }
     requires within { AreWithin (said_options options.now) }
     ensures traces { Traces
         (outside (change K.faults K.contents sink.old sink.new)

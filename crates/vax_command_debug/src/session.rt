@@ -15,7 +15,7 @@ ghost use Rattle.vax_command.specs.Around.{change, outside, seen_of};
 ghost use Rattle.vax_command.specs.Ends.{Admits, Ends, EndsSo};
 ghost use Rattle.vax_command.specs.Fresh.{IsFresh, machine_report};
 ghost use Rattle.vax_command.specs.Loaded.{AreSound, loaded_seen};
-ghost use Rattle.vax_command.specs.Reading.{file_limit};
+ghost use Rattle.vax_command.specs.Reading.{file_limit, large_limit};
 ghost use Rattle.vax_command.specs.Saving.{AnswersSave};
 ghost use Rattle.vax_command_debug.specs.Course.{RunFrom, SavesBy, Went};
 ghost use Rattle.vax_command_debug.specs.Debugging.{Debugged, given};
@@ -263,7 +263,7 @@ pub fn debug_programs<L: Lines, K: Sink, F: PageFile>(
 ) -> Status
     requires sound { AreSound debuggee.programs.now }
     requires input { length debuggee.input.items ≤ file_limit }
-    requires schedule { length debuggee.schedule.now ≤ file_limit }
+    requires schedule { length debuggee.schedule.now ≤ large_limit }
     requires within { AreWithin (said_options options.now) }
     ensures debugged { Debugged
         (outside (change K.faults K.contents sink.old sink.new)

@@ -12,7 +12,7 @@ use Rattle.vax_cli.specs.declared.command.Target.{Target}
 use Rattle.vax_dialect.specs.declared.Dialect.{Dialect}
 use Rattle.vax_command.specs.Around.{Around, Change, around, untouched, with_preludes}
 use Rattle.vax_command.specs.Ends.{Ends, EndsSo}
-use Rattle.vax_command.specs.Reading.{Reads, given}
+use Rattle.vax_command.specs.Reading.{Reads, given, of_programs}
 use Rattle.vax_command.specs.ReadingView.{texts}
 use Rattle.vax_command.specs.Status.{refusal_growth}
 use Rattle.vax_command.specs.declared.status.Status.{Status}
@@ -123,12 +123,12 @@ module _ (sink : Change Channels) (target : Target) (count : ℕ) (titles : List
 
 -- a program was checked
 module _ (seen : Around) (names : List Text) (target : Target) (system : Option Text) (result : Status) where
-  check_comes : (files : List Text) (status : Status) (grown : Channels) → Reads seen.files.before.told (checked_names names system) (Ok files) → IsChecking seen.pages target.dialect (is_bare (base_for target.base)) (found_of target.dialect (base_for target.base) names (joined_files seen.preludes files)) (titles_of seen.preludes (checked_names names system)) (joined_files seen.preludes files) status grown
+  check_comes : (files : List Text) (status : Status) (grown : Channels) → Reads seen.files.before.told (of_programs (checked_names names system)) (Ok files) → IsChecking seen.pages target.dialect (is_bare (base_for target.base)) (found_of target.dialect (base_for target.base) names (joined_files seen.preludes files)) (titles_of seen.preludes (checked_names names system)) (joined_files seen.preludes files) status grown
       → CommandComes seen (check names target system) status grown
   check_comes files status grown h (inl e) = let is : status ≡ NoMemory = e.0 in rw is (inl (tt, e.1, e.2))
   check_comes files status grown h (inr d) = inr (files, h, d)
 
-  pub check_carries : (files : List Text) → Reads seen.files.before.told (checked_names names system) (Ok files) → EndsSo seen.sink (IsChecking seen.pages target.dialect (is_bare (base_for target.base)) (found_of target.dialect (base_for target.base) names (joined_files seen.preludes files)) (titles_of seen.preludes (checked_names names system)) (joined_files seen.preludes files)) result
+  pub check_carries : (files : List Text) → Reads seen.files.before.told (of_programs (checked_names names system)) (Ok files) → EndsSo seen.sink (IsChecking seen.pages target.dialect (is_bare (base_for target.base)) (found_of target.dialect (base_for target.base) names (joined_files seen.preludes files)) (titles_of seen.preludes (checked_names names system)) (joined_files seen.preludes files)) result
       → Carries seen (check names target system) result
   check_carries files h b = record { meant = b.meant; grown = b.grown; comes = check_comes files b.meant b.grown h b.so; ends = b.ends }
 

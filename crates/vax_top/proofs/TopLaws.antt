@@ -29,7 +29,7 @@ use Rattle.vax_command.specs.Running.{IsFaulty, IsRunning, LacksMemory, Ran, Run
 use Rattle.vax_top.specs.Checked.{IsTold, checked_names, found_of, is_bare}
 use Rattle.vax_top.specs.Loaded.{IsRefused, image_for, joined_files, refused_as, sources_image}
 use Rattle.vax_command.specs.Course.{Course, WentOnFrom}
-use Rattle.vax_command.specs.Reading.{EndsBy, HasTexts, ReadEnds, Reads, Texts, of_options, texts_of}
+use Rattle.vax_command.specs.Reading.{EndsBy, HasTexts, ReadEnds, Reads, Texts, of_macros, of_options, of_programs, texts_of}
 use Rattle.vax_command.specs.Resuming.{HasResumed, IsResuming, IsUnfit, ResumesSo}
 use Rattle.vax_command.specs.Saving.{AnswersSave, HasSavedRun, IsSaving, SaveWentFrom, SavesSo}
 use Rattle.vax_command.specs.Wanting.{HasSaved, ReadsWanted, Wanted, WantedEnds, plain}
@@ -136,7 +136,7 @@ module _ (seen : Around) where
   pub no_memory : (said : Said) (status : Status) (grown : Channels) → LacksMemory seen.pages status grown → CommandComes seen said status grown
   no_memory said status grown e = let is : status ≡ NoMemory = e.0 in rw is (inl (tt, e.1, e.2))
 
-  run_comes : (said : Said) (names : List Text) (options : Options) (script : Option Text) (loaded : Texts → Result Loaded Refusal) (texts : Texts) (status : Status) (grown : Channels) → wanted_of said ≡ plain (names ++ of_options options script)
+  run_comes : (said : Said) (names : List Text) (options : Options) (script : Option Text) (loaded : Texts → Result Loaded Refusal) (texts : Texts) (status : Status) (grown : Channels) → wanted_of said ≡ plain (of_programs names ++ of_options options script)
       → ((files : List Text) → run_of (outside_of seen) loaded (texts_of (length names) options script files) options status grown → Does seen.preludes seen.lines (outside_of seen) said files status grown)
       → HasTexts seen.files.before.told names options script texts → IsRunOf (outside_of seen) (loaded texts) texts.input texts.schedule options status grown → CommandComes seen said status grown
   run_comes said names options script loaded texts status grown is does h (inl e) = no_memory said status grown e
@@ -148,7 +148,7 @@ module _ (seen : Around) where
     unread said status e k ends = record { meant = status; grown = refusal_growth status; comes = inl (e, refl, k); ends = ends }
 
     -- a program was run, or refused
-    pub run_carries : (said : Said) (names : List Text) (options : Options) (script : Option Text) (loaded : Texts → Result Loaded Refusal) (texts : Texts) → wanted_of said ≡ plain (names ++ of_options options script)
+    pub run_carries : (said : Said) (names : List Text) (options : Options) (script : Option Text) (loaded : Texts → Result Loaded Refusal) (texts : Texts) → wanted_of said ≡ plain (of_programs names ++ of_options options script)
         → ((files : List Text) (status : Status) (grown : Channels) → run_of (outside_of seen) loaded (texts_of (length names) options script files) options status grown → Does seen.preludes seen.lines (outside_of seen) said files status grown)
         → HasTexts seen.files.before.told names options script texts → RanOf (outside_of seen) (loaded texts) texts.input texts.schedule options result → Carries seen said result
     run_carries said names options script loaded texts is does h r = record {
@@ -218,7 +218,7 @@ module _ (seen : Around) where
     image_refused built Writes status (inr e) k ends = record { meant = status; grown = refusal_growth status; so = inl (e, ap refusal_growth e, k); ends = ends }
 
     -- an image, its instructions, or the listing of sources was written, or these were refused
-    module _ (names : List Text) (target : Target) (files : List Text) (h : Reads seen.files.before.told names (Ok files)) (k : seen.pages.same) where
+    module _ (names : List Text) (target : Target) (files : List Text) (h : Reads seen.files.before.told (of_programs names) (Ok files)) (k : seen.pages.same) where
       pub image_built : (format : Format) (image : Image) (bytes : Text) → image_for seen.preludes target.dialect (base_for target.base) files ≡ Ok image → IsFile format image bytes → Ends seen.sink Done (only channel.Out bytes) result → Carries seen (build names target format) result
       image_built format image bytes is writes ends = record {
         meant = Done;
@@ -550,10 +550,10 @@ module _ (seen : Around) (grown : Channels) where
   carried_allowed : (said : Said) (files : List Text) (status : Status) → Does seen.preludes seen.lines (outside_of seen) said files status grown → Allowed seen (Unread seen (wanted_of said)) grown status
   carried_allowed (bare names options) files status d = does_allowed seen (Unread seen (wanted_of (bare names options))) grown _ _ _ options status d
   carried_allowed (run names options) files status d = does_allowed seen (Unread seen (wanted_of (run names options))) grown _ _ _ options status d
-  carried_allowed (build names target format) files status d = image_allowed seen (Unread seen (plain names)) grown _ (IsFile format) status d
-  carried_allowed (list names target) files status d = image_allowed seen (Unread seen (plain names)) grown _ IsListing status d
-  carried_allowed (listing names target) files status d = image_allowed seen (Unread seen (plain names)) grown _ (IsSourceListing target.dialect (base_for target.base) files) status d
-  carried_allowed (check names target system) files status d = told_allowed seen (Unread seen (plain (checked_names names system))) grown target.dialect (is_bare (base_for target.base)) (found_of target.dialect (base_for target.base) names (joined_files seen.preludes files)) (titles_of seen.preludes (checked_names names system)) (joined_files seen.preludes files) status d.0
+  carried_allowed (build names target format) files status d = image_allowed seen (Unread seen (plain (of_programs names))) grown _ (IsFile format) status d
+  carried_allowed (list names target) files status d = image_allowed seen (Unread seen (plain (of_programs names))) grown _ IsListing status d
+  carried_allowed (listing names target) files status d = image_allowed seen (Unread seen (plain (of_programs names))) grown _ (IsSourceListing target.dialect (base_for target.base) files) status d
+  carried_allowed (check names target system) files status d = told_allowed seen (Unread seen (plain (of_programs (checked_names names system)))) grown target.dialect (is_bare (base_for target.base)) (found_of target.dialect (base_for target.base) names (joined_files seen.preludes files)) (titles_of seen.preludes (checked_names names system)) (joined_files seen.preludes files) status d.0
   carried_allowed (console names linked script options) files status d =
       let texts = texts_of (length names) options (Some script) files in console_allowed seen (Unread seen (wanted_of (console names linked script options))) grown (session_programs seen.preludes options.dialect linked texts) texts options status d
   carried_allowed (debug names linked prompts options) files status d =
@@ -635,8 +635,8 @@ module _ (seen : Around) (grown : Channels) where
 
   comes_allowed : (asked : Asked) (status : Status) → AskedComes seen asked status grown → AllowedBy (Some asked) status
   comes_allowed asked status (inl e) =
-      more_allowed seen grown (λ why. Reads seen.files.before.told asked.macros (Err why)) (IsUnread seen.files.before.told (Some asked)) (λ why h. inl h) status
-      (read_allowed seen (λ why. Reads seen.files.before.told asked.macros (Err why)) grown status e.0 e.1)
+      more_allowed seen grown (λ why. Reads seen.files.before.told (of_macros asked.macros) (Err why)) (IsUnread seen.files.before.told (Some asked)) (λ why h. inl h) status
+      (read_allowed seen (λ why. Reads seen.files.before.told (of_macros asked.macros) (Err why)) grown status e.0 e.1)
   comes_allowed asked status (inr d) =
       more_allowed seen grown (Unread seen (wanted_of asked.said)) (IsUnread seen.files.before.told (Some asked)) (λ why h. inr (d.0, d.1, h)) status
       (behind_allowed seen grown (preludes_of asked.macros d.0) asked.said status d.2)
@@ -801,7 +801,7 @@ module _ (files later : Change Directory) (sink : Change Channels) (pages : Chan
   abbrev Here : Around
   Here = beside lines (around files sink pages)
 
-  pub macros_unread : (status : Status) → ReadEnds files asked.macros status → pages.same → Ends sink status (refusal_growth status) result → CarriesAsked Here asked result
+  pub macros_unread : (status : Status) → ReadEnds files (of_macros asked.macros) status → pages.same → Ends sink status (refusal_growth status) result → CarriesAsked Here asked result
   macros_unread status e k ends = record { meant = status; grown = refusal_growth status; comes = inl (e, refl, k); ends = ends }
 
   pub macros_lacking : pages.same → Ends sink NoMemory (refusal_growth NoMemory) result → CarriesAsked Here asked result
@@ -819,7 +819,7 @@ module _ (files later : Change Directory) (sink : Change Channels) (pages : Chan
       )
   behind_comes preludes status grown same up (inr d) = inr (d.0, subst (λ (c : Option Directory). ReadsWanted c (wanted_of asked.said) (Ok d.0)) same d.1, d.2)
 
-  pub macros_read : (texts : List Text) (preludes : List Prelude) → preludes ≡ preludes_of asked.macros texts → later.before.told ≡ files.before.told → (HasFailed later → HasFailed files) → Reads files.before.told asked.macros (Ok texts)
+  pub macros_read : (texts : List Text) (preludes : List Prelude) → preludes ≡ preludes_of asked.macros texts → later.before.told ≡ files.before.told → (HasFailed later → HasFailed files) → Reads files.before.told (of_macros asked.macros) (Ok texts)
       → Carries (with_preludes preludes (beside lines (around later sink pages))) asked.said result → CarriesAsked Here asked result
   macros_read texts preludes are same up reads c = record {
     meant = c.meant;

@@ -28,7 +28,7 @@ use Rattle.vax_command.specs.Ends.{Ends, EndsSo}
 use Rattle.vax_top.specs.Vectors.{VectorsDo}
 use Rattle.vax_top.specs.Checked.{CheckDoes, checked_names, found_of, is_bare}
 use Rattle.vax_top.specs.Loaded.{IsRefused, bare_loaded, image_for, joined_file, joined_files, sources_image, told_in, user_loaded}
-use Rattle.vax_command.specs.Reading.{ReadEnds, Reads, Texts, of_options, texts_of}
+use Rattle.vax_command.specs.Reading.{ReadEnds, Reads, Sought, Texts, of_macros, of_options, of_programs, texts_of}
 use Rattle.vax_command.specs.Loaded.{Loaded}
 use Rattle.vax_command.specs.Running.{LacksMemory, RunsSo}
 use Rattle.vax_command.specs.Saving.{SavesSo}
@@ -48,19 +48,19 @@ use Rattle.vax_command.specs.declared.status.Status.{Status}
 use Rattle.vax_command.specs.declared.status.Status.TheVariants.{Done, NoMemory, Usage}
 
 -- the files that a command reads, in order, but for that of a saved state
-abbrev pub reads_of : Said → List Text
-reads_of (bare names options) = names ++ of_options options None
-reads_of (run names options) = names ++ of_options options None
-reads_of (build names target format) = names
-reads_of (list names target) = names
-reads_of (source_listing names target) = names
-reads_of (check names target system) = checked_names names system
-reads_of (console names linked script options) = names ++ of_options options (Some script)
-reads_of (debug names linked prompts options) = names ++ of_options options None
-reads_of (trace names linked tracing options) = names ++ of_options options None
-reads_of (save names linked options) = names ++ of_options options None
+abbrev pub reads_of : Said → List Sought
+reads_of (bare names options) = of_programs names ++ of_options options None
+reads_of (run names options) = of_programs names ++ of_options options None
+reads_of (build names target format) = of_programs names
+reads_of (list names target) = of_programs names
+reads_of (source_listing names target) = of_programs names
+reads_of (check names target system) = of_programs (checked_names names system)
+reads_of (console names linked script options) = of_programs names ++ of_options options (Some script)
+reads_of (debug names linked prompts options) = of_programs names ++ of_options options None
+reads_of (trace names linked tracing options) = of_programs names ++ of_options options None
+reads_of (save names linked options) = of_programs names ++ of_options options None
 reads_of (resume name options) = of_options options None
-reads_of (jobs names options) = names ++ jobs_files options
+reads_of (jobs names options) = of_programs names ++ jobs_files options
 reads_of (work seed size options) = of_options options None
 reads_of (vectors request) = []
 reads_of about = []
@@ -78,7 +78,7 @@ wanted_of said = record { saved = saved_of said; names = reads_of said }
 abbrev pub IsUnread : Option Directory → Option Asked → Text × FilesFault → Type 0
 IsUnread contents None why = ⊥
 IsUnread contents (Some asked) why =
-    Reads contents asked.macros (Err why) ⊎ ((texts : List Text) × Reads contents asked.macros (Ok texts) × ReadsWanted contents (wanted_of asked.said) (Err why))
+    Reads contents (of_macros asked.macros) (Err why) ⊎ ((texts : List Text) × Reads contents (of_macros asked.macros) (Ok texts) × ReadsWanted contents (wanted_of asked.said) (Err why))
 
 -- files with a fault are refused before any call of the page file
 pub record IsTurnedAway {X : Type 0} (pages : Change BlockFile) (loaded : Result X Refusal) (status : Status) (grown : Channels) : Type 0 where
@@ -283,8 +283,8 @@ CommandComes seen said status grown =
 -- The same with the files of macros, which are read first and stand before each of its sources.
 abbrev pub AskedComes : Around → Asked → Status → Channels → Type 0
 AskedComes seen asked status grown =
-    (ReadEnds seen.files asked.macros status × (grown ≡ refusal_growth status) × seen.pages.same)
-    ⊎ ((texts : List Text) × Reads seen.files.before.told asked.macros (Ok texts) × CommandComes (with_preludes (preludes_of asked.macros texts) seen) asked.said status grown)
+    (ReadEnds seen.files (of_macros asked.macros) status × (grown ≡ refusal_growth status) × seen.pages.same)
+    ⊎ ((texts : List Text) × Reads seen.files.before.told (of_macros asked.macros) (Ok texts) × CommandComes (with_preludes (preludes_of asked.macros texts) seen) asked.said status grown)
 
 -- the same for any words: those that aren't plain are refused
 abbrev pub WordsCome : Around → (words : List Text) → Status → Channels → Type 0

@@ -20,7 +20,7 @@ use crate::preludes::join_files;
 use std::alloc::{AllocError, Global};
 use vax_check::{Files as Checked, text_of};
 use vax_cli::Target;
-use vax_command::{Part, Programs, Status, load_files, refuse};
+use vax_command::{Part, Programs, Role, Status, load_files, refuse};
 use vax_dialect::Dialect;
 use vax_image::Image;
 use vax_outside::{Chan, Failed, Files, Sink, put_all};
@@ -282,7 +282,7 @@ pub(crate) fn check<S: Files, K: Sink>(
     let Ok(all) = all_names(alloc, names, system) else {
         return refuse(Status::NoMemory, sink);
     };
-    match load_files(alloc, &all, files) {
+    match load_files(alloc, &all, Role::Program, files) {
         Ok(texts) => check_read(alloc, preludes, target, names.len(), &all, &texts, sink),
         Err(status) => refuse(status, sink),
     }

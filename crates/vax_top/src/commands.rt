@@ -9,7 +9,7 @@ ghost use Rattle.vax_cli.specs.Said.{AreWithin, names_of, options as said_option
 ghost use Rattle.vax_command.specs.Around.{around, change, outside, untouched, with_preludes};
 ghost use Rattle.vax_command.specs.Ends.{Admits, Ends};
 ghost use Rattle.vax_prelude.specs.View.{preludes_seen};
-ghost use Rattle.vax_command.specs.Reading.{file_limit};
+ghost use Rattle.vax_command.specs.Reading.{file_limit, large_limit};
 ghost use Rattle.vax_command.specs.ReadingView.{bytes_of, texts as texts_seen};
 ghost use Rattle.vax_top.specs.Top.{Carries, IsFile, RanOf, base_for, session_loaded};
 
@@ -18,7 +18,7 @@ use crate::programs::{alone, load_image_for};
 use crate::sources::load_listing;
 use std::alloc::Global;
 use vax_cli::{Base, Format, Options, Target};
-use vax_command::{Given, Status, load_files, load_options, load_run, refuse, run_programs};
+use vax_command::{Given, Role, Status, load_files, load_options, load_run, refuse, run_programs};
 use vax_guest::generate;
 use vax_image::{Image, write, write2};
 use vax_listing::write_listing;
@@ -87,7 +87,7 @@ fn run_over<K: Sink, F: PageFile>(
     requires some { 1 ≤ length texts.now }
     requires few { length texts.now ≤ 8 }
     requires input { length given.input.items ≤ file_limit }
-    requires schedule { length given.schedule.items ≤ file_limit }
+    requires schedule { length given.schedule.items ≤ large_limit }
     requires within { AreWithin (said_options options.now) }
     ensures ran { RanOf
         (outside (change K.faults K.contents sink.old sink.new)
@@ -222,7 +222,7 @@ pub(crate) fn build<S: Files, K: Sink>(
         (build (names_of names.now) target format) result }
     ensures read_failed { Admits (S.faults files.old) (S.faults files.new) Status.ReadFault result }
 {
-    let texts = match load_files(alloc, names, files) {
+    let texts = match load_files(alloc, names, Role::Program, files) {
         Ok(texts) => texts,
         Err(status) => return refuse(status, sink),
     };
@@ -271,7 +271,7 @@ pub(crate) fn list<S: Files, K: Sink>(
         (list (names_of names.now) target) result }
     ensures read_failed { Admits (S.faults files.old) (S.faults files.new) Status.ReadFault result }
 {
-    let texts = match load_files(alloc, names, files) {
+    let texts = match load_files(alloc, names, Role::Program, files) {
         Ok(texts) => texts,
         Err(status) => return refuse(status, sink),
     };
@@ -304,7 +304,7 @@ pub(crate) fn list_sources<S: Files, K: Sink>(
         (source_listing (names_of names.now) target) result }
     ensures read_failed { Admits (S.faults files.old) (S.faults files.new) Status.ReadFault result }
 {
-    let texts = match load_files(alloc, names, files) {
+    let texts = match load_files(alloc, names, Role::Program, files) {
         Ok(texts) => texts,
         Err(status) => return refuse(status, sink),
     };

@@ -22,7 +22,7 @@ use crate::tracing::run_trace;
 use crate::vectors::write_vectors;
 use std::alloc::Global;
 use vax_cli::{Asked, Command, WordsError, command_of};
-use vax_command::{Status, load_files, refuse};
+use vax_command::{Role, Status, load_files, refuse};
 use vax_input::Lines;
 use vax_outside::{Files, PageFile, Sink};
 use vax_prelude::{Prelude, preludes_of};
@@ -229,7 +229,7 @@ fn carry_asked<S: Files, L: Lines, K: Sink, F: PageFile>(
     ensures line_failed { Admits (L.faults lines.old) (L.faults lines.new) Status.LineFault result }
 {
     let Asked { command, macros } = asked;
-    let texts = match load_files(alloc, macros.as_slice(), files) {
+    let texts = match load_files(alloc, macros.as_slice(), Role::Other, files) {
         Ok(texts) => texts,
         Err(status) => return refuse(status, sink),
     };

@@ -9,7 +9,7 @@ pub returns-in_err-bytes-clause-ends : goal.returns-in_err-bytes-clause-ends
 returns-in_err-bytes-clause-ends g c =
     let inv = c.loop-name.invariant in
     err_has c.from_residual.result _ _ c.from_residual.ensures.1
-    (ends_at (Rose (g.S.Files.faults c.loop-name.files) (g.S.Files.faults c.load.new.files)) _ (g.S.Files.contents c.args.files.now) (g.S.Files.contents c.loop-name.files) c.args.names.now c.loop-name.name-index (record { ref_ptr = (0, 0); now = [] }) (texts c.loop-name.all.items) c.in_err-bytes.field-0.0
+    (ends_at c.args.role (Rose (g.S.Files.faults c.loop-name.files) (g.S.Files.faults c.load.new.files)) _ (g.S.Files.contents c.args.files.now) (g.S.Files.contents c.loop-name.files) c.args.names.now c.loop-name.name-index (record { ref_ptr = (0, 0); now = [] }) (texts c.loop-name.all.items) c.in_err-bytes.field-0.0
     c.loop-name-test.true inv.same (λ r. rose_from _ _ _ inv.quiet r) inv.reads c.in_err-bytes.ensures.ends)
 
 pub loop-name-preserved : goal.loop-name-preserved
@@ -20,5 +20,5 @@ loop-name-preserved g c =
       same = c.in_ok-bytes.ensures.only.same ∙ inv.same;
       quiet = c.in_ok-bytes.ensures.only.quiet ∙ inv.quiet;
       count = rw (grown, length_push) (omega arith);
-      reads = rw (texts_more _ _ c.in_ok-bytes.bytes grown) (one_more (g.S.Files.contents c.args.files.now) (g.S.Files.contents c.loop-name.files) c.args.names.now c.loop-name.name-index (record { ref_ptr = (0, 0); now = [] }) (texts c.loop-name.all.items) c.in_ok-bytes.bytes.items c.loop-name-test.true inv.same inv.reads c.in_ok-bytes.ensures.ok);
+      reads = rw (texts_more _ _ c.in_ok-bytes.bytes grown) (one_more c.args.role (g.S.Files.contents c.args.files.now) (g.S.Files.contents c.loop-name.files) c.args.names.now c.loop-name.name-index (record { ref_ptr = (0, 0); now = [] }) (texts c.loop-name.all.items) c.in_ok-bytes.bytes.items c.loop-name-test.true inv.same inv.reads c.in_ok-bytes.ensures.ok);
     }

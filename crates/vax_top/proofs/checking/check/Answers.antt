@@ -4,7 +4,7 @@ use Rattle.std.specs.Option.{option_copied}
 use Rattle.vax_cli.specs.Said.{names_of}
 use Rattle.vax_cli.specs.Words.{Text}
 use Rattle.vax_command.specs.Around.{around, change, untouched, with_preludes}
-use Rattle.vax_command.specs.Reading.{Reads}
+use Rattle.vax_command.specs.Reading.{Reads, of_programs}
 use Rattle.vax_command.specs.ReadingView.{texts}
 use Rattle.vax_prelude.specs.View.{preludes_seen}
 use Rattle.vax_top.specs.Checked.{checked_names}
@@ -22,6 +22,6 @@ returns-in-Ok-load_files-clause-carries g c =
     let shown : names_of c.deref-in-Ok-load_files.result.now ≡ all = ap (λ (list : List (Bor Text)). names_of list) c.deref-in-Ok-load_files.ensures.value ∙ c.in-Ok.ensures in
     let read : texts c.deref-in-Ok-load_files-2.result.now ≡ files = ap texts c.deref-in-Ok-load_files-2.ensures.value in
     check_carries seen names c.args.target system c.check_read.result files
-    (subst (λ (list : List Text). Reads seen.files.before.told list (Ok files)) named c.in-Ok-load_files.ensures.ok)
+    (subst (λ (list : List Text). Reads seen.files.before.told (of_programs list) (Ok files)) named c.in-Ok-load_files.ensures.ok)
     (all_told seen.sink seen.preludes c.args.names.now c.args.target all files c.check_read.result (length c.args.names.now)
     (names_of c.deref-in-Ok-load_files.result.now) (texts c.deref-in-Ok-load_files-2.result.now) refl shown read c.check_read.ensures)

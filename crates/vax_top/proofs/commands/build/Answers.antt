@@ -11,7 +11,6 @@ use Rattle.vax_command.specs.ReadingView.{texts}
 use Rattle.vax_command.specs.declared.status.Status.TheVariants.{Done}
 use Rattle.vax_prelude.specs.View.{preludes_seen}
 use Rattle.vax_top.specs.Loaded.{image_for}
-use Rattle.vax_top.specs.Top.{base_for}
 use Rattle.vax_top.proofs.TopLaws.{image_built}
 use Rattle.vax_top.proofs.commands.build.Goals as goal
 

@@ -6,7 +6,6 @@ use Rattle.vax_command.specs.Around.{around, change, untouched, with_preludes}
 use Rattle.vax_command.specs.ReadingView.{texts}
 use Rattle.vax_prelude.specs.View.{preludes_seen}
 use Rattle.vax_top.specs.Loaded.{image_for}
-use Rattle.vax_top.specs.Top.{base_for}
 use Rattle.vax_listing.specs.Listing.{listing}
 use Rattle.vax_top.proofs.TopLaws.{image_listed}
 use Rattle.vax_top.proofs.commands.list.Goals as goal

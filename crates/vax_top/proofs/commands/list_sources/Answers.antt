@@ -10,7 +10,6 @@ use Rattle.vax_command.specs.Around.{around, change, untouched}
 use Rattle.vax_command.specs.Ends.{Ends}
 use Rattle.vax_command.specs.ReadingView.{texts}
 use Rattle.vax_command.specs.declared.status.Status.TheVariants.{Done}
-use Rattle.vax_top.specs.Top.{base_for}
 use Rattle.vax_top.proofs.TopLaws.{sources_listed}
 use Rattle.vax_top.proofs.commands.list_sources.Goals as goal
 

@@ -4,7 +4,7 @@ use Rattle.vax_cli.specs.Said.{asked as asked_seen, names_of}
 use Rattle.vax_cli.specs.Words.{Text}
 use Rattle.vax_command.proofs.LoadLaws.{rose_from}
 use Rattle.vax_command.specs.Around.{change}
-use Rattle.vax_command.specs.Reading.{ReadEnds, Reads}
+use Rattle.vax_command.specs.Reading.{ReadEnds, Reads, of_macros}
 use Rattle.vax_command.specs.ReadingView.{texts}
 use Rattle.vax_command.specs.declared.status.Status.TheVariants.{ReadFault}
 use Rattle.vax_prelude.specs.Preludes.{preludes_of}
@@ -18,7 +18,7 @@ returns-in-Err-clause-carries g c =
     let sink = change g.K.Sink.faults g.K.Sink.contents c.args.sink.now c.refuse.new.sink in
     let pages = change g.F.PageFile.faults g.F.PageFile.contents c.args.pages.now c.args.pages.now in
     let lines = change g.L.Lines.faults g.L.Lines.rest c.args.lines.now c.args.lines.now in
-    let ends = subst (λ (l : List (Bor Text)). ReadEnds files (names_of l) c.in-Err.status) c.as_slice.ensures.value c.in-Err.ensures.ends in
+    let ends = subst (λ (l : List (Bor Text)). ReadEnds files (of_macros (names_of l)) c.in-Err.status) c.as_slice.ensures.value c.in-Err.ensures.ends in
     macros_unread files files sink pages lines (asked_seen c.args.asked) c.refuse.result c.in-Err.status ends refl c.refuse.ensures
 
 pub returns-in_default-clause-carries : goal.returns-in_default-clause-carries
@@ -38,7 +38,7 @@ returns-clause-carries g c =
     let lines = change g.L.Lines.faults g.L.Lines.rest c.args.lines.now c.carry_out.new.lines in
     let asked = asked_seen c.args.asked in
     let read = texts c.in-Ok.texts.items in
-    let reads = subst (λ (l : List (Bor Text)). Reads files.before.told (names_of l) (Ok read)) c.as_slice.ensures.value c.in-Ok.ensures.ok in
+    let reads = subst (λ (l : List (Bor Text)). Reads files.before.told (of_macros (names_of l)) (Ok read)) c.as_slice.ensures.value c.in-Ok.ensures.ok in
     let are : preludes_seen c.deref-2.result.now ≡ preludes_of asked.macros read =
     ap preludes_seen c.deref-2.ensures.value ∙ c.in-Ok-preludes_of.ensures
     ∙ ap (λ (l : List (Bor Text)). preludes_of (names_of l) (texts c.deref.result.now)) c.as_slice-2.ensures.value
