@@ -6,7 +6,7 @@ use Rattle.vax_outside.specs.declared.traits.Chan.TheVariants.{Out}
 use Rattle.vax_outside.specs.declared.faults.Failures.{Failures}
 use Rattle.vax_outside.proofs.Growth.{grew_nothing, front_unsaved}
 use Rattle.vax_flat.specs.declared.Ending.{Ending}
-use Rattle.vax_flat.specs.Parts.{At, Within, Completes, gone_back, left_by, partway, turn}
+use Rattle.vax_flat.specs.Parts.{At, Within, Completes, Leaves, Turn, gone_back, left_by, partway, turn}
 use Rattle.vax_flat.specs.Step.{Flat, ended, step, with_byte_sent}
 use Rattle.vax_flat.proofs.Parts.{turns_agree}
 use Rattle.vax_machine.specs.Console.{IsBetween, let_go}
@@ -20,8 +20,10 @@ use Rattle.vax_console.specs.Ends.{IsAt, IsWithin, OnlyReplied, Scene, scene, wr
 use Rattle.vax_console.proofs.Requested.{same_ending}
 use Rattle.vax_console.proofs.Running.{is_le}
 use Rattle.vax_debug.specs.Attempts.{Attempts, Brings, IsUnderway, Sends, bare, bytes_sent, missing_none}
-use Rattle.vax_debug.specs.Pages.{absent_in, attempted, missed_by, pages_at, unless_ended}
+use Rattle.vax_debug.specs.Pages.{absent_in, attempted, is_parted, missed_by, pages_at, parted_in, told_of, unless_ended}
 use Rattle.vax_debug.specs.Sessions.{Arrives, Counts, IsHere, Origin}
+use Rattle.vax_debug.specs.declared.attempts.Tried.{Tried}
+use Rattle.vax_debug.specs.declared.attempts.Tried.TheVariants as tried
 use Rattle.vax_debug.specs.declared.failure.Failure.{Failure}
 use Rattle.vax_debug.specs.declared.failure.Failure.TheVariants as failure
 use Rattle.vax_debug.proofs.Arriving.{HasTold, here_behind, part_behind, told_at}
@@ -35,26 +37,41 @@ nothing_grew a b is = subst (λ (z : Option Channels). Grew a z (writes [] [])) 
 
 -- an attempt that missed nothing
 
-attempts_none : (turns : ℕ) (missed : Option ℕ) (o : Origin) (s : Session) (replies : List ℕ) (w : Scene) → None ≡ missed → IsHere o (stepped s) replies w → Attempts (Ok None) turns missed o s replies w
-attempts_none turns missed o s replies w is here = (is, subst (λ (z : Option ℕ). IsHere o (attempted z s) replies w) is here)
+-- what is told of one that made the step whole, or in parts
+told_made : (missed : Option ℕ) (s : Session) → None ≡ missed → is_parted s ≡ false → tried.Made ≡ told_of missed (is_parted s)
+told_made missed s none whole = sym (ap (λ (b : Bool). told_of None b) whole) ∙ ap (λ (z : Option ℕ). told_of z (is_parted s)) none
 
-attempts_of : (r : Result (Unit {0}) Failure) (turns : ℕ) (missed : Option ℕ) (o : Origin) (s : Session) (replies : List ℕ) (w : Scene) → None ≡ missed → Arrives r turns 1 (stepped s) o s replies w → Attempts (missing_none r) turns missed o s replies w
-attempts_of (Ok x) turns missed o s replies w is a = attempts_none turns missed o s replies w is a
-attempts_of (Err failure.Turns) turns missed o s replies w is a = a
-attempts_of (Err failure.PageFault) turns missed o s replies w is a = a
-attempts_of (Err failure.WriteFault) turns missed o s replies w is a = a
+pub told_parted : (missed : Option ℕ) (s : Session) → None ≡ missed → is_parted s ≡ true → tried.Parted ≡ told_of missed (is_parted s)
+told_parted missed s none parted = sym (ap (λ (b : Bool). told_of None b) parted) ∙ ap (λ (z : Option ℕ). told_of z (is_parted s)) none
 
-pub attempts_as : (r : Result (Unit {0}) Failure) (found : Result (Option ℕ) Failure) (turns : ℕ) (missed : Option ℕ) (o : Origin) (s : Session) (replies : List ℕ) (w : Scene) → found ≡ missing_none r → None ≡ missed → Arrives r turns 1 (stepped s) o s replies w → Attempts found turns missed o s replies w
-attempts_as r found turns missed o s replies w is none a =
-    subst (λ (z : Result (Option ℕ) Failure). Attempts z turns missed o s replies w) (sym is) (attempts_of r turns missed o s replies w none a)
+attempts_none : (told : Tried) (turns : ℕ) (missed : Option ℕ) (o : Origin) (s : Session) (replies : List ℕ) (w : Scene) → None ≡ missed → told ≡ told_of missed (is_parted s) → IsHere o (stepped s) replies w → Attempts (Ok told) turns missed o s replies w
+attempts_none told turns missed o s replies w is tells here = (tells, subst (λ (z : Option ℕ). IsHere o (attempted z s) replies w) is here)
+
+attempts_of : (told : Tried) (r : Result (Unit {0}) Failure) (turns : ℕ) (missed : Option ℕ) (o : Origin) (s : Session) (replies : List ℕ) (w : Scene) → None ≡ missed → told ≡ told_of missed (is_parted s) → Arrives r turns 1 (stepped s) o s replies w → Attempts (missing_none told r) turns missed o s replies w
+attempts_of told (Ok x) turns missed o s replies w is tells a = attempts_none told turns missed o s replies w is tells a
+attempts_of told (Err failure.Turns) turns missed o s replies w is tells a = a
+attempts_of told (Err failure.PageFault) turns missed o s replies w is tells a = a
+attempts_of told (Err failure.WriteFault) turns missed o s replies w is tells a = a
+
+attempts_told : (told : Tried) (r : Result (Unit {0}) Failure) (found : Result Tried Failure) (turns : ℕ) (missed : Option ℕ) (o : Origin) (s : Session) (replies : List ℕ) (w : Scene) → found ≡ missing_none told r → None ≡ missed → told ≡ told_of missed (is_parted s) → Arrives r turns 1 (stepped s) o s replies w → Attempts found turns missed o s replies w
+attempts_told told r found turns missed o s replies w is none tells a =
+    subst (λ (z : Result Tried Failure). Attempts z turns missed o s replies w) (sym is) (attempts_of told r turns missed o s replies w none tells a)
+
+pub attempts_whole : (r : Result (Unit {0}) Failure) (found : Result Tried Failure) (turns : ℕ) (missed : Option ℕ) (o : Origin) (s : Session) (replies : List ℕ) (w : Scene) → found ≡ missing_none tried.Made r → None ≡ missed → is_parted s ≡ false → Arrives r turns 1 (stepped s) o s replies w → Attempts found turns missed o s replies w
+attempts_whole r found turns missed o s replies w is none whole a =
+    attempts_told tried.Made r found turns missed o s replies w is none (told_made missed s none whole) a
+
+pub attempts_parted : (r : Result (Unit {0}) Failure) (found : Result Tried Failure) (turns : ℕ) (missed : Option ℕ) (o : Origin) (s : Session) (replies : List ℕ) (w : Scene) → found ≡ missing_none tried.Parted r → None ≡ missed → is_parted s ≡ true → Arrives r turns 1 (stepped s) o s replies w → Attempts found turns missed o s replies w
+attempts_parted r found turns missed o s replies w is none parted a =
+    attempts_told tried.Parted r found turns missed o s replies w is none (told_parted missed s none parted) a
 
 -- the calls that failed in an attempt that missed nothing
-counts_of : (r : Result (Unit {0}) Failure) (f g x y : Failures) → Counts r f g x y → Counts (bare (missing_none r)) f g x y
-counts_of (Ok x) f g a b c = c
-counts_of (Err e) f g a b c = c
+counts_of : (told : Tried) (r : Result (Unit {0}) Failure) (f g x y : Failures) → Counts r f g x y → Counts (bare (missing_none told r)) f g x y
+counts_of told (Ok x) f g a b c = c
+counts_of told (Err e) f g a b c = c
 
-pub counts_as : (r : Result (Unit {0}) Failure) (found : Result (Option ℕ) Failure) (f g x y : Failures) → found ≡ missing_none r → Counts r f g x y → Counts (bare found) f g x y
-counts_as r found f g x y is c = subst (λ (z : Result (Option ℕ) Failure). Counts (bare z) f g x y) (sym is) (counts_of r f g x y c)
+pub counts_as : (told : Tried) (r : Result (Unit {0}) Failure) (found : Result Tried Failure) (f g x y : Failures) → found ≡ missing_none told r → Counts r f g x y → Counts (bare found) f g x y
+counts_as told r found f g x y is c = subst (λ (z : Result Tried Failure). Counts (bare z) f g x y) (sym is) (counts_of told r f g x y c)
 
 -- what an attempt came to, by its answer
 
@@ -66,6 +83,10 @@ tried_on (Some e) old new result n t = absurd (n e t.0)
 -- no page is missed, or this one, as what is resident tells
 missed_is : (s : Session) (v : Scene) (found : Option ℕ) → s.machine.ending ≡ None → absent_in (pages_at v.machine) s.machine ≡ found → found ≡ missed_by (pages_at v.machine) s
 missed_is s v found going is = sym (ap (λ (h : Option Ending). unless_ended h (absent_in (pages_at v.machine) s.machine)) going ∙ is)
+
+-- whether a part is made, as the turn of the flat machine tells
+parted_is : (s : Session) (t : Turn) → s.machine.ending ≡ None → turn (At s.machine) ≡ t → is_parted s ≡ is_some (left_by t)
+parted_is s t going is = ap (λ (h : Option Ending). parted_in h s.machine) going ∙ ap (λ (z : Turn). is_some (left_by z)) is
 
 -- a page was missed: the session stays
 pub record HasMissed (page : ℕ) (o : Origin) (s : Session) (replies : List ℕ) (v w : Scene) : Type 0 where
@@ -96,6 +117,7 @@ pub record HasMade (sent : Option ℕ) (o : Origin) (s : Session) (v w : Scene) 
   pub between : IsBetween w.machine
   pub output : (advanced 1 s).machine.output ≡ s.machine.output ++ bytes_sent sent
   pub is : None ≡ missed_by (pages_at v.machine) s
+  pub whole : is_parted s ≡ false
 
 with_sent : (output : List ℕ) (sent : Option ℕ) → with_byte_sent output sent ≡ output ++ bytes_sent sent
 with_sent output None = sym (append-nil output)
@@ -119,6 +141,7 @@ made_one sent o s v w next going is steps means pinned output none =
       between = record { closed = means.processor.open_one; unpinned = pinned };
       output = sym (ap (λ (z : Session). z.machine.output) t) ∙ (output ∙ with_sent s.machine.output sent);
       is = missed_is s v None going none;
+      whole = parted_is s (Completes next) going is;
     }
 
 -- the steps that are counted
@@ -154,26 +177,27 @@ made_here o s replies v w told silent m =
     })
 
 -- a machine that had ended stays
-ended_stays : (e : Ending) (o : Origin) (s : Session) (replies : List ℕ) (v w : Scene) → IsHere o s replies v → v.machine.ended ≡ Some e → w.machine ≡ v.machine → w.file ≡ v.file → w.sink ≡ v.sink → (None ≡ missed_by (pages_at v.machine) s) × IsHere o (stepped s) replies w
+ended_stays : (e : Ending) (o : Origin) (s : Session) (replies : List ℕ) (v w : Scene) → IsHere o s replies v → v.machine.ended ≡ Some e → w.machine ≡ v.machine → w.file ≡ v.file → w.sink ≡ v.sink → (None ≡ missed_by (pages_at v.machine) s) × (is_parted s ≡ false) × IsHere o (stepped s) replies w
 ended_stays e o s replies v w h over machine file sink =
     let ending : s.machine.ending ≡ Some e = same_ending v.machine v.file s.machine h.at.means ∙ over in
     let same : w ≡ v = λ i. record { machine = machine i; file = file i; sink = sink i } in
     let stays : stepped s ≡ s = ap (λ (x : Option Ending). step_by x s) ending in (
       sym (ap (λ (x : Option Ending). unless_ended x (absent_in (pages_at v.machine) s.machine)) ending),
+      ap (λ (x : Option Ending). parted_in x s.machine) ending,
       subst (λ (z : Session). IsHere o z replies w) (sym stays) (subst (λ (z : Scene). IsHere o s replies z) (sym same) h),
     )
 
 -- an answer that is none of these tells of the end
 by_rest : (how : Option Ending) (result : Applied) (o : Origin) (s : Session) (replies : List ℕ) (v w : Scene) → v.machine.ended ≡ how → IsHere o s replies v → s.steps + 1 < 2 ^ 64 → w.file ≡ v.file → w.sink ≡ v.sink →
     ((page : ℕ) → result ≡ applied.Absent page → ⊥) → ((sent : Option ℕ) → result ≡ applied.Stepped sent → ⊥) → (result ≡ applied.Parted → ⊥) → Tries how v.machine result w.machine →
-    (None ≡ missed_by (pages_at v.machine) s) × IsHere o (stepped s) replies w
+    (None ≡ missed_by (pages_at v.machine) s) × (is_parted s ≡ false) × IsHere o (stepped s) replies w
 by_rest (Some e) result o s replies v w how h few file sink a b c t = ended_stays e o s replies v w h how t.1 file sink
 by_rest None (applied.Stepped sent) o s replies v w how h few file sink a b c t = absurd (b sent refl)
 by_rest None applied.Parted o s replies v w how h few file sink a b c t = absurd (c refl)
 by_rest None (applied.Absent page) o s replies v w how h few file sink a b c t = absurd (a page refl)
 by_rest None (applied.Ended e) o s replies v w how h few file sink a b c t =
     let m = ends_tried e o s replies v w h few how t file in
-    (m.is, made_here o s replies v w (told_at o.flat s replies v.machine v.file o.channels v.sink h.at) sink m)
+    (m.is, m.whole, made_here o s replies v w (told_at o.flat s replies v.machine v.file o.channels v.sink h.at) sink m)
 by_rest None (applied.Served page) o s replies v w how h few file sink a b c t = absurd t.answer
 by_rest None applied.Evicted o s replies v w how h few file sink a b c t = absurd t.answer
 by_rest None applied.Flushed o s replies v w how h few file sink a b c t = absurd t.answer
@@ -182,15 +206,15 @@ by_rest None applied.Failed o s replies v w how h few file sink a b c t = absurd
 
 pub rest_attempts : (result : Applied) (turns : ℕ) (o : Origin) (s : Session) (replies : List ℕ) (v w : Scene) → IsHere o s replies v → s.steps + 1 < 2 ^ 64 → w.sink ≡ v.sink →
     ((page : ℕ) → result ≡ applied.Absent page → ⊥) → ((sent : Option ℕ) → result ≡ applied.Stepped sent → ⊥) → (result ≡ applied.Parted → ⊥) → Applies event.Attempt v.machine v.file result w.machine w.file →
-    Attempts (Ok None) turns (missed_by (pages_at v.machine) s) o s replies w
+    Attempts (Ok tried.Made) turns (missed_by (pages_at v.machine) s) o s replies w
 rest_attempts result turns o s replies v w h few sink a b c t =
     let r = by_rest v.machine.ended result o s replies v w refl h few t.1 sink a b c t.0 in
-    attempts_none turns (missed_by (pages_at v.machine) s) o s replies w r.0 r.1
+    attempts_none tried.Made turns (missed_by (pages_at v.machine) s) o s replies w r.0 (told_made (missed_by (pages_at v.machine) s) s r.0 r.1) r.2
 
 -- a part of the step was made
 
 pub parts : (result : Applied) (o : Origin) (s : Session) (replies : List ℕ) (v w : Scene) → result ≡ applied.Parted → IsHere o s replies v → w.sink ≡ v.sink → Applies event.Attempt v.machine v.file result w.machine w.file →
-    (None ≡ missed_by (pages_at v.machine) s) × IsUnderway o s replies w
+    (None ≡ missed_by (pages_at v.machine) s) × (is_parted s ≡ true) × IsUnderway o s replies w
 unfolding partway
 parts result o s replies v w is h silent a =
     let t = tried_on v.machine.ended v.machine w.machine result (λ e other. let no : applied.Parted ≡ applied.Ended e = sym is ∙ other in absurd (cc no)) a.0 in
@@ -198,6 +222,7 @@ parts result o s replies v w is h silent a =
     let g = k.goes v.file (At s.machine) h.at.means in
     let going : s.machine.ending ≡ None = same_ending v.machine v.file s.machine h.at.means ∙ t.0 in (
       missed_is s v None going g.0,
+      parted_is s (Leaves g.1.next) going g.1.turn,
       record {
         place = Within g.1.next;
         goes = (0, ap left_by g.1.turn);
@@ -272,8 +297,8 @@ within_at o s most replies v h = record {
 }
 
 -- the page that was missed came in, or a call of the page file failed
-pub missed_attempts : (found : Result (Option ℕ) Failure) (page turns : ℕ) (o : Origin) (s : Session) (replies : List ℕ) (v w x : Scene) → HasMissed page o s replies v w → Brings found page o s replies x → Attempts found turns (missed_by (pages_at v.machine) s) o s replies x
-missed_attempts (Ok found) page turns o s replies v w x h b = (b.0 ∙ h.is, subst (λ (z : Option ℕ). IsHere o (attempted z s) replies x) h.is b.1)
+pub missed_attempts : (found : Result Tried Failure) (page turns : ℕ) (o : Origin) (s : Session) (replies : List ℕ) (v w x : Scene) → HasMissed page o s replies v w → Brings found page o s replies x → Attempts found turns (missed_by (pages_at v.machine) s) o s replies x
+missed_attempts (Ok found) page turns o s replies v w x h b = (b.0 ∙ ap (λ (z : Option ℕ). told_of z (is_parted s)) h.is, subst (λ (z : Option ℕ). IsHere o (attempted z s) replies x) h.is b.1)
 missed_attempts (Err failure.Turns) page turns o s replies v w x h b = absurd b
 missed_attempts (Err failure.PageFault) page turns o s replies v w x h b = within_at o s 1 replies x b
 missed_attempts (Err failure.WriteFault) page turns o s replies v w x h b = absurd b

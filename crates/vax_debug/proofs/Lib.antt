@@ -5,6 +5,7 @@ pub mod Calling
 pub mod Cells
 pub mod Reported
 pub mod Leading
+pub mod Locating
 pub mod Attempting
 pub mod Statuses
 pub mod Watching

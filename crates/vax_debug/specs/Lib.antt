@@ -2,6 +2,7 @@ pub mod Travel
 pub mod Sessions
 pub mod Calls
 pub mod Values
+pub mod Places
 pub mod Pages
 pub mod Attempts
 pub mod Status

@@ -14,12 +14,19 @@ use vax_machine::{Applied, Event, Limits, Machine};
 use vax_outside::{Chan, Failed, PageFile, Sink, put_all};
 use vax_sched::Schedule;
 
+/// What an attempt at a step came to.
+#[derive(Clone, Copy, PartialEq, Eq)]
+pub enum Tried {
+    /// It missed this page, which came in. The step is still to be made.
+    Missed(u32),
+    /// It made the step.
+    Made,
+    /// It made a part of a string instruction, and the other parts were made after it, each by attempts of its own, with the pages that these missed.
+    Parted,
+}
+
 /// Brings in the page that an attempt missed. It isn't pinned.
-fn bring_in<F: PageFile>(
-    page: u32,
-    machine: &mut Machine,
-    file: &mut F,
-) -> Result<Option<u32>, Failure>
+fn bring_in<F: PageFile>(page: u32, machine: &mut Machine, file: &mut F) -> Result<Tried, Failure>
     ensures brings { (sink : Option Channels) →
         BringsFrom (scene (engine machine.old) (F.contents file.old) sink)
         (scene (engine machine.new) (F.contents file.new) sink) result page }
@@ -30,7 +37,7 @@ fn bring_in<F: PageFile>(
         Applied::Failed => Err(Failure::PageFault),
         _ => {
             machine.let_go();
-            Ok(Some(page))
+            Ok(Tried::Missed(page))
         }
     }
 }
@@ -50,12 +57,12 @@ fn send<K: Sink>(sent: Option<u8>, sink: &mut K) -> Result<(), Failure>
     }
 }
 
-/// An attempt that missed no page.
-fn missing_none(made: Result<(), Failure>) -> Result<Option<u32>, Failure>
-    ensures { result ≡ missing_none made }
+/// An attempt that missed no page, with what is told of it.
+fn missing_none(told: Tried, made: Result<(), Failure>) -> Result<Tried, Failure>
+    ensures { result ≡ missing_none told made }
 {
     match made {
-        Ok(()) => Ok(None),
+        Ok(()) => Ok(told),
         Err(failure) => Err(failure),
     }
 }
@@ -69,14 +76,15 @@ fn is_out_of_turns(machine: &Machine, limits: &Limits) -> bool
 }
 
 /// Makes one attempt at a step with the pages that are resident: what a schedule has due isn't made absent. It answers the first page that the step touches and that
-/// is absent, which comes in, or that none is and the step was made. A string instruction that was left behind a part is made to its end.
+/// is absent, which comes in, or that none is and the step was made. Of a string instruction it makes a part; since a session stands between steps alone, that is made to its
+/// end, and the answer says so.
 pub fn attempt<F: PageFile, K: Sink>(
     machine: &mut Machine,
     limits: &Limits,
     schedule: &Schedule,
     file: &mut F,
     sink: &mut K,
-) -> Result<Option<u32>, Failure>
+) -> Result<Tried, Failure>
     requires few_turns { limits.now.turns < 2 ^ 64 - 2 }
     ensures attempts { AttemptsFrom
         (scene (engine machine.old) (F.contents file.old) (K.contents sink.old))
@@ -91,8 +99,13 @@ pub fn attempt<F: PageFile, K: Sink>(
     }
     match machine.apply(Event::Attempt, file) {
         Applied::Absent(page) => bring_in(page, machine, file),
-        Applied::Stepped(sent) => missing_none(send(sent, sink)),
-        Applied::Parted => missing_none(make_step(machine, limits, schedule, file, sink)),
-        _ => Ok(None),
+        Applied::Stepped(sent) => missing_none(Tried::Made, send(sent, sink)),
+        Applied::Parted => {
+            missing_none(
+                Tried::Parted,
+                make_step(machine, limits, schedule, file, sink),
+            )
+        }
+        _ => Ok(Tried::Made),
     }
 }

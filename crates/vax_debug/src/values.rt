@@ -9,10 +9,11 @@ ghost use Rattle.vax_debug.specs.Calls.{TellsFrom};
 ghost use Rattle.vax_debug.specs.Sessions.{StaysHere};
 ghost use Rattle.vax_debug_words.specs.Expressions.{IsBase, IsExpression};
 ghost use Rattle.vax_debug_names.specs.Names.{number_of};
+ghost use Rattle.vax_debug.specs.Places.{begins_too_large};
 ghost use Rattle.vax_debug.specs.Values.{based, evaluated, plus, through};
 
 use crate::frames::longword;
-use vax_debug_names::{Legend, number_of};
+use vax_debug_names::{Legend, is_too_large, number_of};
 use vax_debug_words::{Base, Expression};
 use vax_machine::Machine;
 use vax_outside::PageFile;
@@ -124,6 +125,16 @@ fn plus(offset: u32, found: Option<u32>) -> Option<u32>
     match found {
         Some(n) => Some(n.wrapping_add(offset)),
         None => None,
+    }
+}
+
+/// Whether an expression begins with a number of more than 32 bits, which is no name.
+pub fn begins_too_large(legend: &Legend, base: &Base) -> bool
+    ensures { result ≡ begins_too_large legend.now base.now }
+{
+    match base {
+        Base::Register(_) => false,
+        Base::Named(name) => is_too_large(legend.symbols, name.as_slice()),
     }
 }
 

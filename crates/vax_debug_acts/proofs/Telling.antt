@@ -1,5 +1,5 @@
 -- Replies that were written, and what a request comes to by them.
-use Rattle.std.proofs.Common.{◌≡◌, ℕ, List, [], ◌++◌, append-nil, Option, None, Some, Result, Ok, Err, OnOk, refl, sym, ap, subst, ◌∙◌, inl, inr, arith}
+use Rattle.std.proofs.Common.{◌≡◌, ℕ, List, [], ◌++◌, append-nil, append_assoc, Option, None, Some, Result, Ok, Err, OnOk, refl, sym, ap, subst, ◌∙◌, inl, inr, arith}
 use Rattle.vax_outside.specs.Blocks.{BlockFile}
 use Rattle.vax_outside.specs.Channels.{Channels, Grew, GrewByPrefix, only}
 use Rattle.vax_outside.specs.declared.faults.Failures.{Failures}
@@ -15,9 +15,11 @@ use Rattle.vax_debug.specs.declared.breaks.Plan.{Plan}
 use Rattle.vax_debug.specs.declared.watches.Watch.{Watch}
 use Rattle.vax_debug.specs.declared.failure.Failure.{Failure}
 use Rattle.vax_debug.specs.declared.failure.Failure.TheVariants as failure
+use Rattle.vax_debug.specs.declared.places.Place.{Place}
+use Rattle.vax_debug.specs.declared.places.Place.TheVariants as place
 use Rattle.vax_debug.proofs.Reported.{prefix_only, prefix_report, report_only}
 use Rattle.vax_debug_acts.specs.Acting.{Act, Acts, IsToldInPart, Replies, Tells, act}
-use Rattle.vax_debug_acts.specs.Acts.{broken_at, by_address, by_value, no_value_line, watch, watched_at, with_break, with_watch}
+use Rattle.vax_debug_acts.specs.Acts.{at_place, broken_at, by_address, by_number, by_place, by_value, no_value_line, outside_line, watch, watched_at, with_break, with_watch}
 
 -- what is written behind what was sent and replied
 
@@ -49,6 +51,22 @@ not_told o s replies text v h = record {
   untold = text;
   splits = refl;
   at = subst (λ (z : List ℕ). IsAt o.flat s z v.machine v.file o.channels v.sink) (sym (append-nil replies)) h.at;
+}
+
+part_behind_reply : (o : Origin) (s : Session) (replies first more : List ℕ) (v : Scene) → IsToldInPart o s (replies ++ first) more v → IsToldInPart o s replies (first ++ more) v
+part_behind_reply o s replies first more v h = record {
+  told = first ++ h.told;
+  untold = h.untold;
+  splits = append_assoc first h.told h.untold ∙ ap (λ (z : List ℕ). first ++ z) h.splits;
+  at = subst (λ (z : List ℕ). IsAt o.flat s z v.machine v.file o.channels v.sink) (append_assoc replies first h.told) h.at;
+}
+
+part_of_first : (o : Origin) (s : Session) (replies first more : List ℕ) (v : Scene) → IsToldInPart o s replies first v → IsToldInPart o s replies (first ++ more) v
+part_of_first o s replies first more v h = record {
+  told = h.told;
+  untold = h.untold ++ more;
+  splits = sym (append_assoc h.told h.untold more) ∙ ap (λ (z : List ℕ). z ++ more) h.splits;
+  at = h.at;
 }
 
 pub tells : (r : Result (Unit {0}) Failure) (before now : Failures) (o : Origin) (s : Session) (replies text : List ℕ) (m : Engine) (f : Option BlockFile) (a b : Option Channels) → IsHere o s replies (scene m f a) → Replies r before now a b text → Tells r o s replies text (scene m f b)
@@ -85,6 +103,20 @@ pub replies_first : (e : Failure) (before now : Failures) (a b : Option Channels
 replies_first failure.Turns before now a b text more p = absurd p
 replies_first failure.PageFault before now a b text more p = absurd p
 replies_first failure.WriteFault before now a b text more p = (p.0, p.1, report_first a b text more p.2)
+
+-- of a reply behind another
+
+pub tells_behind : (r : Result (Unit {0}) Failure) (o : Origin) (s : Session) (replies first more : List ℕ) (v : Scene) → Tells r o s (replies ++ first) more v → Tells r o s replies (first ++ more) v
+tells_behind (Ok x) o s replies first more v h = subst (λ (z : List ℕ). IsHere o s z v) (append_assoc replies first more) h
+tells_behind (Err failure.Turns) o s replies first more v h = absurd h
+tells_behind (Err failure.PageFault) o s replies first more v h = part_behind_reply o s replies first more v h
+tells_behind (Err failure.WriteFault) o s replies first more v h = part_behind_reply o s replies first more v h
+
+-- only a part of the first was written
+pub tells_first : (e : Failure) (o : Origin) (s : Session) (replies first more : List ℕ) (v : Scene) → Tells (Err e) o s replies first v → Tells (Err e) o s replies (first ++ more) v
+tells_first failure.Turns o s replies first more v h = absurd h
+tells_first failure.PageFault o s replies first more v h = part_of_first o s replies first more v h
+tells_first failure.WriteFault o s replies first more v h = part_of_first o s replies first more v h
 
 -- what a request comes to
 
@@ -127,12 +159,32 @@ not_done turns a o s replies v h = inl (on_the_way o s a.most replies v h)
 
 -- by the value of an expression
 
+pub with_number : (none : List ℕ) (r : Result (Unit {0}) Failure) (turns n : ℕ) (found : Option ℕ) (asked : ℕ → Act) (o : Origin) (s : Session) (replies : List ℕ) (v : Scene) → Some n ≡ found → Acts r turns (asked n) o s replies v → Acts r turns (by_number none found s asked) o s replies v
+with_number none r turns n found asked o s replies v is h = subst (λ (z : Option ℕ). Acts r turns (by_number none z s asked) o s replies v) is h
+
+pub without_number : (none : List ℕ) (r : Result (Unit {0}) Failure) (turns : ℕ) (found : Option ℕ) (asked : ℕ → Act) (o : Origin) (s : Session) (replies : List ℕ) (v : Scene) → None ≡ found → Tells r o s replies none v → Acts r turns (by_number none found s asked) o s replies v
+without_number none r turns found asked o s replies v is h =
+    subst (λ (z : Option ℕ). Acts r turns (by_number none z s asked) o s replies v) is (done r turns 0 o s s replies none v h)
+
 pub with_value : (r : Result (Unit {0}) Failure) (turns n : ℕ) (found : Option ℕ) (asked : ℕ → Act) (o : Origin) (s : Session) (replies : List ℕ) (v : Scene) → Some n ≡ found → Acts r turns (asked n) o s replies v → Acts r turns (by_value found s asked) o s replies v
 with_value r turns n found asked o s replies v is h = subst (λ (z : Option ℕ). Acts r turns (by_value z s asked) o s replies v) is h
 
 pub without_value : (r : Result (Unit {0}) Failure) (turns : ℕ) (found : Option ℕ) (asked : ℕ → Act) (o : Origin) (s : Session) (replies : List ℕ) (v : Scene) → None ≡ found → Tells r o s replies no_value_line v → Acts r turns (by_value found s asked) o s replies v
 without_value r turns found asked o s replies v is h =
     subst (λ (z : Option ℕ). Acts r turns (by_value z s asked) o s replies v) is (done r turns 0 o s s replies no_value_line v h)
+
+-- by where an address lies
+
+pub in_place : (r : Result (Unit {0}) Failure) (turns address : ℕ) (found : Place) (asked : ℕ → Act) (o : Origin) (s : Session) (replies : List ℕ) (v : Scene) → place.Inside address ≡ found → Acts r turns (asked address) o s replies v → Acts r turns (by_place found s asked) o s replies v
+in_place r turns address found asked o s replies v is h = subst (λ (z : Place). Acts r turns (by_place z s asked) o s replies v) is h
+
+pub outside : (r : Result (Unit {0}) Failure) (turns : ℕ) (found : Place) (asked : ℕ → Act) (o : Origin) (s : Session) (replies : List ℕ) (v : Scene) → place.Outside ≡ found → Tells r o s replies outside_line v → Acts r turns (by_place found s asked) o s replies v
+outside r turns found asked o s replies v is h =
+    subst (λ (z : Place). Acts r turns (by_place z s asked) o s replies v) is (done r turns 0 o s s replies outside_line v h)
+
+pub in_no_place : (r : Result (Unit {0}) Failure) (turns : ℕ) (found : Place) (asked : ℕ → Act) (o : Origin) (s : Session) (replies : List ℕ) (v : Scene) → place.Unknown ≡ found → Tells r o s replies no_value_line v → Acts r turns (by_place found s asked) o s replies v
+in_no_place r turns found asked o s replies v is h =
+    subst (λ (z : Place). Acts r turns (by_place z s asked) o s replies v) is (done r turns 0 o s s replies no_value_line v h)
 
 pub ok_if : {T E P : Type 0} (r : Result T E) → P → OnOk r P
 ok_if (Ok x) p = p
@@ -143,6 +195,15 @@ breaks_at r n found breaks new change is e = ok_if r (subst (λ (z : Option ℕ)
 
 pub breaks_same : (r : Result (Unit {0}) Failure) (found : Option ℕ) (breaks : Plan) (change : ℕ → Plan) → None ≡ found → OnOk r (breaks ≡ by_address found breaks change)
 breaks_same r found breaks change is = ok_if r (subst (λ (z : Option ℕ). breaks ≡ by_address z breaks change) is refl)
+
+pub placed_at : (r : Result (Unit {0}) Failure) (address : ℕ) (found : Place) (breaks new : Plan) (change : ℕ → Plan) → place.Inside address ≡ found → new ≡ change address → OnOk r (new ≡ at_place found breaks change)
+placed_at r address found breaks new change is e = ok_if r (subst (λ (z : Place). new ≡ at_place z breaks change) is e)
+
+pub placed_same : (r : Result (Unit {0}) Failure) (found : Place) (breaks : Plan) (change : ℕ → Plan) → place.Unknown ≡ found → OnOk r (breaks ≡ at_place found breaks change)
+placed_same r found breaks change is = ok_if r (subst (λ (z : Place). breaks ≡ at_place z breaks change) is refl)
+
+pub placed_outside : (r : Result (Unit {0}) Failure) (found : Place) (breaks : Plan) (change : ℕ → Plan) → place.Outside ≡ found → OnOk r (breaks ≡ at_place found breaks change)
+placed_outside r found breaks change is = ok_if r (subst (λ (z : Place). breaks ≡ at_place z breaks change) is refl)
 
 -- addresses or watches are others
 pub broken_is : (plan : Plan) (new : List ℕ) (address : ℕ) → new ≡ with_break plan.breaks address → record plan { breaks = new } ≡ broken_at plan address

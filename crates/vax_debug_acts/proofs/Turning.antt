@@ -1,17 +1,19 @@
 -- One attempt, and what is replied to it.
-use Rattle.std.proofs.Common.{◌≡◌, ◌<◌, ◌+◌, ◌^◌, nat_le, Bool, true, false, if◌then◌else◌, ℕ, List, [], Option, None, Some, Result, Err, sym, ap, subst, ◌∙◌, arith}
+use Rattle.std.proofs.Common.{◌≡◌, ◌<◌, ◌+◌, ◌^◌, ◌++◌, nat_le, Bool, true, false, if◌then◌else◌, ℕ, List, [], Option, None, Some, Result, Err, refl, sym, ap, subst, ◌∙◌, arith}
 use Rattle.vax_console.specs.Transcript.{Session, stepped}
 use Rattle.vax_console.specs.Ends.{Scene}
-use Rattle.vax_debug.specs.Pages.{Pages, attempted, missed_by, start_of_page}
+use Rattle.vax_debug.specs.Pages.{Pages, attempted, is_parted, missed_by, start_of_page, told_of}
 use Rattle.vax_debug.specs.Sessions.{Arrives, IsHere, Origin}
 use Rattle.vax_debug.specs.declared.breaks.Plan.{Plan}
+use Rattle.vax_debug.specs.declared.attempts.Tried.{Tried}
+use Rattle.vax_debug.specs.declared.attempts.Tried.TheVariants as tried
 use Rattle.vax_debug.specs.declared.failure.Failure.{Failure}
 use Rattle.vax_debug_names.specs.declared.Legend.{Legend}
 use Rattle.vax_debug_replies.specs.Pages.{missed_line}
 use Rattle.vax_debug_acts.specs.Acting.{Act, Acts, Tells}
 use Rattle.vax_debug_acts.specs.Acts.{only_told, stop_reply}
-use Rattle.vax_debug_acts.specs.Attempts.{attempt_act, turn_act}
-use Rattle.vax_debug_acts.proofs.Telling.{cut_off, done}
+use Rattle.vax_debug_acts.specs.Attempts.{attempt_act, parts_if, parts_line, turn_act}
+use Rattle.vax_debug_acts.proofs.Telling.{cut_off, done, tells_as}
 
 act_then : (b : Bool) (x y : Act) (P : Act → Type 0) → b ≡ true → P x → P (if b then x else y)
 act_then true x y P is p = p
@@ -49,11 +51,24 @@ turned_missed r page turns limit legend plan pages o s replies v w b h is at mis
     (subst (λ (z : Option ℕ). Acts r turns (attempt_act limit legend plan z s) o s replies w) missed (done r turns 1 o s s replies (missed_line legend (start_of_page page)) w t))
 
 -- none was
-pub turned_made : (r : Result (Unit {0}) Failure) (turns limit : ℕ) (legend : Legend) (plan : Plan) (pages : Pages) (o : Origin) (s : Session) (replies : List ℕ) (v w : Scene) (b : Bool) → IsHere o s replies v → b ≡ nat_le limit v.machine.steps → b ≡ false →
-    None ≡ missed_by pages s → Tells r o (stepped s) replies (stop_reply limit legend plan [] (stepped s)) w → Acts r turns (turn_act limit legend plan pages s) o s replies w
-turned_made r turns limit legend plan pages o s replies v w b h is at missed t =
+turned_made : (first : List ℕ) (r : Result (Unit {0}) Failure) (turns limit : ℕ) (legend : Legend) (plan : Plan) (pages : Pages) (o : Origin) (s : Session) (replies : List ℕ) (v w : Scene) (b : Bool) → IsHere o s replies v → b ≡ nat_le limit v.machine.steps → b ≡ false →
+    None ≡ missed_by pages s → first ≡ parts_if (is_parted s) → Tells r o (stepped s) replies (first ++ stop_reply limit legend plan [] (stepped s)) w → Acts r turns (turn_act limit legend plan pages s) o s replies w
+turned_made first r turns limit legend plan pages o s replies v w b h is at missed parts t =
+    let stop = stop_reply limit legend plan [] (stepped s) in
     goes r turns limit legend plan pages o s replies v w b h is at
-    (subst (λ (z : Option ℕ). Acts r turns (attempt_act limit legend plan z s) o s replies w) missed (done r turns 1 o s (stepped s) replies (stop_reply limit legend plan [] (stepped s)) w t))
+    (subst (λ (z : Option ℕ). Acts r turns (attempt_act limit legend plan z s) o s replies w) missed
+    (done r turns 1 o s (stepped s) replies (parts_if (is_parted s) ++ stop) w
+    (tells_as r o (stepped s) replies (first ++ stop) (parts_if (is_parted s) ++ stop) w (ap (λ (z : List ℕ). z ++ stop) parts) t)))
+
+pub turned_whole : (r : Result (Unit {0}) Failure) (turns limit : ℕ) (legend : Legend) (plan : Plan) (pages : Pages) (o : Origin) (s : Session) (replies : List ℕ) (v w : Scene) (b : Bool) → IsHere o s replies v → b ≡ nat_le limit v.machine.steps → b ≡ false →
+    None ≡ missed_by pages s → is_parted s ≡ false → Tells r o (stepped s) replies (stop_reply limit legend plan [] (stepped s)) w → Acts r turns (turn_act limit legend plan pages s) o s replies w
+turned_whole r turns limit legend plan pages o s replies v w b h is at missed whole t =
+    turned_made [] r turns limit legend plan pages o s replies v w b h is at missed (sym (ap parts_if whole)) t
+
+pub turned_parted : (r : Result (Unit {0}) Failure) (turns limit : ℕ) (legend : Legend) (plan : Plan) (pages : Pages) (o : Origin) (s : Session) (replies : List ℕ) (v w : Scene) (b : Bool) → IsHere o s replies v → b ≡ nat_le limit v.machine.steps → b ≡ false →
+    None ≡ missed_by pages s → is_parted s ≡ true → Tells r o (stepped s) replies (parts_line ++ stop_reply limit legend plan [] (stepped s)) w → Acts r turns (turn_act limit legend plan pages s) o s replies w
+turned_parted r turns limit legend plan pages o s replies v w b h is at missed parted t =
+    turned_made parts_line r turns limit legend plan pages o s replies v w b h is at missed (sym (ap parts_if parted)) t
 
 -- it failed
 failed : (e : Failure) (missed : Option ℕ) (turns limit : ℕ) (legend : Legend) (plan : Plan) (o : Origin) (s : Session) (replies : List ℕ) (w : Scene) → Arrives (Err e) turns 1 s o s replies w → Acts (Err e) turns (attempt_act limit legend plan missed s) o s replies w
@@ -64,6 +79,31 @@ pub turned_failed : (e : Failure) (turns limit : ℕ) (legend : Legend) (plan : 
     Arrives (Err e) turns 1 s o s replies w → Acts (Err e) turns (turn_act limit legend plan pages s) o s replies w
 turned_failed e turns limit legend plan pages o s replies v w b h is at a =
     goes (Err e) turns limit legend plan pages o s replies v w b h is at (failed e (missed_by pages s) turns limit legend plan o s replies w a)
+
+-- what an attempt's answer says of it
+
+abbrev page_in : Tried → Option ℕ
+page_in (tried.Missed page) = Some page
+page_in tried.Made = None
+page_in tried.Parted = None
+
+page_told : (missed : Option ℕ) (parted : Bool) → page_in (told_of missed parted) ≡ missed
+page_told None true = refl
+page_told None false = refl
+page_told (Some page) parted = refl
+
+pub told_missed : (page : ℕ) (missed : Option ℕ) (parted : Bool) → tried.Missed page ≡ told_of missed parted → Some page ≡ missed
+told_missed page missed parted is = ap page_in is ∙ page_told missed parted
+
+pub told_whole : (missed : Option ℕ) (parted : Bool) → tried.Made ≡ told_of missed parted → (None ≡ missed) × (parted ≡ false)
+told_whole None true is = absurd (cc is)
+told_whole None false is = (refl, refl)
+told_whole (Some page) parted is = absurd (cc is)
+
+pub told_parted : (missed : Option ℕ) (parted : Bool) → tried.Parted ≡ told_of missed parted → (None ≡ missed) × (parted ≡ true)
+told_parted None true is = (refl, refl)
+told_parted None false is = absurd (cc is)
+told_parted (Some page) parted is = absurd (cc is)
 
 -- where the session is behind an attempt
 pub missed_here : (page : ℕ) (missed : Option ℕ) (o : Origin) (s : Session) (replies : List ℕ) (w : Scene) → Some page ≡ missed → IsHere o (attempted missed s) replies w → IsHere o s replies w

@@ -1,5 +1,5 @@
 -- What a debugger does when it is asked to step, to change something, or to make pages absent.
-use Rattle.std.specs.Prelude.{ℕ, ◌==◌, ◌∷◌, min, nat_le, Bool, Option, None, Some, List, [], ◌++◌, codes, if◌then◌else◌, length, take}
+use Rattle.std.specs.Prelude.{ℕ, ◌-◌, ◌*◌, ◌^◌, ◌==◌, ◌||◌, ◌∷◌, min, nat_le, nat_lt, Bool, Option, None, Some, List, [], ◌++◌, codes, if◌then◌else◌, length, take}
 use Rattle.std.specs.List.{list_any}
 use Rattle.std.specs.Int.{to_le_bytes, w32, w64}
 use Rattle.vax_flat.specs.declared.Ending.{Ending}
@@ -23,7 +23,10 @@ use Rattle.vax_debug_words.specs.declared.request.Size.TheVariants as size
 use Rattle.vax_debug_words.specs.declared.request.Value.{Value}
 use Rattle.vax_debug_words.specs.declared.request.Value.TheVariants as value
 use Rattle.vax_debug_names.specs.declared.Legend.{Legend}
+use Rattle.vax_debug.specs.Places.{begins_too_large, located}
 use Rattle.vax_debug.specs.Values.{evaluated}
+use Rattle.vax_debug.specs.declared.places.Place.{Place}
+use Rattle.vax_debug.specs.declared.places.Place.TheVariants as place
 use Rattle.vax_debug_replies.specs.Stops.{break_line, change_line, here, reason, watch_line}
 use Rattle.vax_debug_acts.specs.Acting.{Act, act}
 
@@ -35,6 +38,18 @@ done_line = line (codes "OK")
 -- an expression has no value
 abbrev pub no_value_line : List ℕ
 no_value_line = line (codes "?NO SUCH NAME OR ADDRESS")
+
+-- an address lies in no area
+abbrev pub outside_line : List ℕ
+outside_line = line (codes "?IN NO AREA")
+
+-- a number has no room
+abbrev pub too_large_line : List ℕ
+too_large_line = line (codes "?VALUE TOO LARGE")
+
+-- an expression has no value, or its number is too large for one
+abbrev pub no_number_line : Legend → Expression → List ℕ
+no_number_line legend e = if begins_too_large legend e.base then too_large_line else no_value_line
 
 -- bytes can't be put there
 abbrev pub put_line : Bool → List ℕ
@@ -56,10 +71,19 @@ no_frame_line = line (codes "?NO FRAME")
 abbrev pub only_told : Session → List ℕ → Act
 only_told s reply = act 0 s reply
 
--- what an expression's value is needed for
+-- what an expression's value is needed for, or this reply where it has none
+abbrev pub by_number : (none : List ℕ) → Option ℕ → Session → (ℕ → Act) → Act
+by_number none None s asked = only_told s none
+by_number none (Some n) s asked = asked n
+
 abbrev pub by_value : Option ℕ → Session → (ℕ → Act) → Act
-by_value None s asked = only_told s no_value_line
-by_value (Some n) s asked = asked n
+by_value found s asked = by_number no_value_line found s asked
+
+-- what an address is needed for that an area has
+abbrev pub by_place : Place → Session → (ℕ → Act) → Act
+by_place place.Unknown s asked = only_told s no_value_line
+by_place place.Outside s asked = only_told s outside_line
+by_place (place.Inside address) s asked = asked address
 
 -- steps
 
@@ -129,7 +153,7 @@ to_goal limit legend plan goal s = goal_seen limit legend plan goal (seen_in pla
 
 abbrev pub until_act : (limit : ℕ) → Legend → Plan → Expression → Session → Act
 until_act limit legend plan e s =
-    by_value (evaluated legend e s.machine) s (λ address. to_goal limit legend plan (goal_at address 0) s)
+    by_place (located legend e s.machine) s (λ address. to_goal limit legend plan (goal_at address 0) s)
 
 abbrev pub out_to : (limit : ℕ) → Legend → Plan → Session → Option Goal → Act
 out_to limit legend plan s None = only_told s no_frame_line
@@ -146,7 +170,7 @@ register_put register value s = act 0 (with_machine (with_register register valu
 
 abbrev pub register_act : Legend → (register : ℕ) → Expression → Session → Act
 register_act legend register e s =
-    by_value (evaluated legend e s.machine) s (λ value. register_put register value s)
+    by_number (no_number_line legend e) (evaluated legend e s.machine) s (λ value. register_put register value s)
 
 -- bytes are put into memory, where they may be
 abbrev pub put_act : (address : ℕ) → List ℕ → Session → Act
@@ -162,10 +186,20 @@ width size.Long = 4
 abbrev pub number_bytes : Size → ℕ → List ℕ
 number_bytes size n = take (width size) (to_le_bytes w32 n)
 
+-- A size has room for a number without a sign, and for a negative one: 32 bits that its own bits are with their sign before them.
+abbrev pub fits : Size → ℕ → Bool
+fits size n = nat_lt n (2 ^ (8 * width size)) || nat_le (2 ^ 32 - 2 ^ (8 * width size - 1)) n
+
+-- and where it has none nothing is put
+abbrev pub number_act : (address : ℕ) → Size → ℕ → Session → Act
+number_act address size n s =
+    if fits size n then put_act address (number_bytes size n) s else only_told s too_large_line
+
 abbrev pub put_value_act : Legend → (address : ℕ) → Value → Session → Act
 put_value_act legend address (value.Number size e) s =
-    by_value (evaluated legend e s.machine) s (λ n. put_act address (number_bytes size n) s)
+    by_number (no_number_line legend e) (evaluated legend e s.machine) s (λ n. number_act address size n s)
 put_value_act legend address (value.Quadword n) s = put_act address (to_le_bytes w64 n) s
+put_value_act legend address value.TooLarge s = only_told s too_large_line
 put_value_act legend address (value.Text bytes) s = put_act address bytes s
 
 abbrev pub memory_act : Legend → Expression → Value → Session → Act
@@ -175,7 +209,7 @@ memory_act legend to given s =
 -- pages: whatever is made absent, the session stays
 
 abbrev pub evict_act : Legend → Expression → Session → Act
-evict_act legend e s = by_value (evaluated legend e s.machine) s (λ address. only_told s done_line)
+evict_act legend e s = by_place (located legend e s.machine) s (λ address. only_told s done_line)
 
 -- addresses at which steps stop, and what is watched
 
@@ -192,7 +226,12 @@ added_line legend breaks address =
 
 abbrev pub break_act : Legend → Plan → Expression → Session → Act
 break_act legend plan e s =
-    by_value (evaluated legend e s.machine) s (λ address. only_told s (added_line legend plan.breaks address))
+    by_place (located legend e s.machine) s (λ address. only_told s (added_line legend plan.breaks address))
+
+abbrev pub at_place : Place → Plan → (ℕ → Plan) → Plan
+at_place place.Unknown plan change = plan
+at_place place.Outside plan change = plan
+at_place (place.Inside address) plan change = change address
 
 abbrev pub by_address : Option ℕ → Plan → (ℕ → Plan) → Plan
 by_address None plan change = plan
@@ -202,7 +241,7 @@ abbrev pub broken_at : Plan → ℕ → Plan
 broken_at plan address = record plan { breaks = with_break plan.breaks address }
 
 abbrev pub breaks_with : Legend → Plan → Expression → Session → Plan
-breaks_with legend plan e s = by_address (evaluated legend e s.machine) plan (broken_at plan)
+breaks_with legend plan e s = at_place (located legend e s.machine) plan (broken_at plan)
 
 -- one more watch, in place of those that begin there, unless there are 16 others
 abbrev pub with_watch : List Watch → Watch → List Watch
@@ -218,13 +257,13 @@ watch_reply legend watches w =
 
 abbrev pub watch_act : Legend → Plan → Span → Session → Act
 watch_act legend plan at s =
-    by_value (evaluated legend at.from s.machine) s (λ address. only_told s (watch_reply legend plan.watches (watch at.count address)))
+    by_place (located legend at.from s.machine) s (λ address. only_told s (watch_reply legend plan.watches (watch at.count address)))
 
 abbrev pub watched_at : Plan → (count address : ℕ) → Plan
 watched_at plan count address = record plan { watches = with_watch plan.watches (watch count address) }
 
 abbrev pub watches_with : Legend → Plan → Span → Session → Plan
-watches_with legend plan at s = by_address (evaluated legend at.from s.machine) plan (watched_at plan at.count)
+watches_with legend plan at s = at_place (located legend at.from s.machine) plan (watched_at plan at.count)
 
 abbrev pub clear_act : Legend → Expression → Session → Act
 clear_act legend e s = by_value (evaluated legend e s.machine) s (λ address. only_told s done_line)

@@ -10,9 +10,11 @@ ghost use Rattle.vax_debug_replies.specs.Stops.{break_line, watch_line};
 ghost use Rattle.vax_debug_acts.specs.Acting.{ActsFrom, BreaksFrom, Replies};
 ghost use Rattle.vax_debug_acts.specs.Acts.{added_line, break_act, breaks_with, breaks_without, clear_act, cleared_at, done_line, watch_act, watch_reply, watches_with, with_break, with_watch};
 
-use crate::reply::{reply_with, tell_done, tell_full, tell_full_watches, tell_no_value};
+use crate::reply::{
+    reply_with, tell_done, tell_full, tell_full_watches, tell_no_value, tell_outside,
+};
 use crate::stops::Setting;
-use vax_debug::{Breaks, Failure, Plan, Watch, Watches, evaluate};
+use vax_debug::{Breaks, Failure, Place, Plan, Watch, Watches, evaluate, locate};
 use vax_debug_names::Legend;
 use vax_debug_replies::{push_break_line, push_watch_line};
 use vax_debug_words::{Expression, Span};
@@ -93,7 +95,7 @@ fn add_watch<K: Sink>(
     tell_watch(legend, watch, sink)
 }
 
-/// Steps are to stop at an address, unless there are 16 others.
+/// Steps are to stop at an address that an area has, unless there are 16 others.
 pub fn stop_at<F: PageFile, K: Sink>(
     at: &Expression,
     setting: &Setting,
@@ -115,14 +117,15 @@ pub fn stop_at<F: PageFile, K: Sink>(
         (K.faults sink.new) }
     ensures only { OnlyReplied (K.contents sink.old) (K.contents sink.new) }
 {
-    match evaluate(setting.legend, at, machine, file) {
-        Ok(Some(address)) => add(setting.legend, address, &mut plan.breaks, sink),
-        Ok(None) => tell_no_value(sink),
+    match locate(setting.legend, at, machine, file) {
+        Ok(Place::Inside(address)) => add(setting.legend, address, &mut plan.breaks, sink),
+        Ok(Place::Outside) => tell_outside(sink),
+        Ok(Place::Unknown) => tell_no_value(sink),
         Err(_) => Err(Failure::PageFault),
     }
 }
 
-/// Bytes are to be watched, unless 16 others are.
+/// Bytes are to be watched, of which an area has the first, unless 16 others are.
 pub fn watch<F: PageFile, K: Sink>(
     at: &Span,
     setting: &Setting,
@@ -144,15 +147,16 @@ pub fn watch<F: PageFile, K: Sink>(
         (K.faults sink.new) }
     ensures only { OnlyReplied (K.contents sink.old) (K.contents sink.new) }
 {
-    match evaluate(setting.legend, &at.from, machine, file) {
-        Ok(Some(address)) => {
+    match locate(setting.legend, &at.from, machine, file) {
+        Ok(Place::Inside(address)) => {
             let watch = Watch {
                 address,
                 count: at.count,
             };
             add_watch(setting.legend, watch, &mut plan.watches, sink)
         }
-        Ok(None) => tell_no_value(sink),
+        Ok(Place::Outside) => tell_outside(sink),
+        Ok(Place::Unknown) => tell_no_value(sink),
         Err(_) => Err(Failure::PageFault),
     }
 }

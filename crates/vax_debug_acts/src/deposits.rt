@@ -8,9 +8,9 @@ ghost use Rattle.vax_debug_words.specs.Expressions.{IsExpression};
 ghost use Rattle.vax_debug_words.specs.Requests.{IsValue};
 ghost use Rattle.vax_debug_words.specs.declared.request.Value.TheVariants.{Number};
 ghost use Rattle.vax_debug_acts.specs.Acting.{ActsFrom};
-ghost use Rattle.vax_debug_acts.specs.Acts.{memory_act, number_bytes, put_act, put_line, put_value_act, register_act, register_put, width};
+ghost use Rattle.vax_debug_acts.specs.Acts.{fits, memory_act, number_act, number_bytes, put_act, put_line, put_value_act, register_act, register_put, width};
 
-use crate::reply::{reply_with, tell_no_value};
+use crate::reply::{reply_with, tell_no_number, tell_no_value, tell_too_large};
 use crate::stops::Setting;
 use vax_debug::{Failure, deposit, deposit_register, evaluate};
 use vax_debug_words::{Expression, Size, Value};
@@ -62,6 +62,17 @@ fn width(size: Size) -> usize
     }
 }
 
+/// Whether a size has room for a number: without a sign, or as a negative number.
+fn fits(size: Size, number: u32) -> bool
+    ensures { result ≡ fits size number }
+{
+    match size {
+        Size::Byte => number <= 0xFF || 0xFFFF_FF80 <= number,
+        Size::Word => number <= 0xFFFF || 0xFFFF_8000 <= number,
+        Size::Long => true,
+    }
+}
+
 /// The first of some bytes.
 fn first(bytes: &[u8], count: usize) -> &[u8]
     requires { count ≤ length bytes.now }
@@ -71,8 +82,8 @@ fn first(bytes: &[u8], count: usize) -> &[u8]
     bytes.split_at(count).0
 }
 
-/// Puts a number into memory.
-fn put_number<F: PageFile, K: Sink>(
+/// Puts the bytes of a number into memory.
+fn put_bytes<F: PageFile, K: Sink>(
     address: u32,
     size: Size,
     number: u32,
@@ -91,6 +102,31 @@ fn put_number<F: PageFile, K: Sink>(
 {
     let bytes = number.to_le_bytes();
     put(address, first(&bytes, width(size)), machine, file, sink)
+}
+
+/// Puts a number into memory, if its size has room for it.
+fn put_number<F: PageFile, K: Sink>(
+    address: u32,
+    size: Size,
+    number: u32,
+    machine: &mut Machine,
+    file: &mut F,
+    sink: &mut K,
+) -> Result<(), Failure>
+    ensures acts { (limits : Limits) → ActsFrom
+        (scene (engine machine.old) (F.contents file.old) (K.contents sink.old))
+        (scene (engine machine.new) (F.contents file.new) (K.contents sink.new)) result
+        limits
+        (number_act address size number) }
+    ensures counts { Counts result (F.faults file.old) (F.faults file.new) (K.faults sink.old)
+        (K.faults sink.new) }
+    ensures only { OnlyReplied (K.contents sink.old) (K.contents sink.new) }
+{
+    if fits(size, number) {
+        put_bytes(address, size, number, machine, file, sink)
+    } else {
+        tell_too_large(sink)
+    }
 }
 
 /// Puts the value of an expression into memory.
@@ -114,8 +150,8 @@ fn put_result<F: PageFile, K: Sink>(
     ensures only { OnlyReplied (K.contents sink.old) (K.contents sink.new) }
 {
     match evaluate(setting.legend, number, machine, file) {
-        Ok(Some(number)) => put_number(address, size, number, machine, file, sink),
-        Ok(None) => tell_no_value(sink),
+        Ok(Some(found)) => put_number(address, size, found, machine, file, sink),
+        Ok(None) => tell_no_number(setting.legend, number, sink),
         Err(_) => Err(Failure::PageFault),
     }
 }
@@ -144,6 +180,7 @@ fn put_value<F: PageFile, K: Sink>(
             put_result(address, *size, number, setting, machine, file, sink)
         }
         Value::Quadword(number) => { put(address, &number.to_le_bytes(), machine, file, sink) }
+        Value::TooLarge => tell_too_large(sink),
         Value::Text(text) => put(address, text.as_slice(), machine, file, sink),
     }
 }
@@ -218,7 +255,7 @@ pub fn deposit_into_register<F: PageFile, K: Sink>(
 {
     match evaluate(setting.legend, given, machine, file) {
         Ok(Some(value)) => put_into_register(register, value, machine, file, sink),
-        Ok(None) => tell_no_value(sink),
+        Ok(None) => tell_no_number(setting.legend, given, sink),
         Err(_) => Err(Failure::PageFault),
     }
 }

@@ -10,9 +10,9 @@ ghost use Rattle.vax_debug_words.specs.Expressions.{IsExpression};
 ghost use Rattle.vax_debug_acts.specs.Acting.{ActsFrom, RepliesFrom};
 ghost use Rattle.vax_debug_acts.specs.Acts.{done_line, evict_act};
 
-use crate::reply::{tell_done, tell_no_value};
+use crate::reply::{tell_done, tell_no_value, tell_outside};
 use crate::stops::Setting;
-use vax_debug::{Failure, evaluate, evict};
+use vax_debug::{Failure, Place, evict, locate};
 use vax_debug_words::Expression;
 use vax_machine::Machine;
 use vax_outside::{PageFile, Sink};
@@ -42,7 +42,7 @@ fn evict_page<F: PageFile, K: Sink>(
     }
 }
 
-/// Makes the page of an address absent.
+/// Makes the page of an address absent, if an area has it.
 pub fn evict_at<F: PageFile, K: Sink>(
     at: &Expression,
     setting: &Setting,
@@ -60,9 +60,10 @@ pub fn evict_at<F: PageFile, K: Sink>(
         (K.faults sink.new) }
     ensures only { OnlyReplied (K.contents sink.old) (K.contents sink.new) }
 {
-    match evaluate(setting.legend, at, machine, file) {
-        Ok(Some(address)) => evict_page(address / PAGE_BYTES, machine, file, sink),
-        Ok(None) => tell_no_value(sink),
+    match locate(setting.legend, at, machine, file) {
+        Ok(Place::Inside(address)) => evict_page(address / PAGE_BYTES, machine, file, sink),
+        Ok(Place::Outside) => tell_outside(sink),
+        Ok(Place::Unknown) => tell_no_value(sink),
         Err(_) => Err(Failure::PageFault),
     }
 }

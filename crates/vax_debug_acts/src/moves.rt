@@ -7,9 +7,9 @@ ghost use Rattle.vax_debug_words.specs.Expressions.{IsExpression};
 ghost use Rattle.vax_debug_acts.specs.Acting.{ActsFrom};
 ghost use Rattle.vax_debug_acts.specs.Acts.{go_act, go_seen, goal_seen, out_act, over_act, over_seen, step_act, step_seen, to_goal, until_act};
 
-use crate::reply::{tell_no_frame, tell_no_value};
+use crate::reply::{tell_no_frame, tell_no_value, tell_outside};
 use crate::stops::{Setting, tell_stop};
-use vax_debug::{Failure, Goal, Marks, Plan, Snapshot, evaluate, frame_goal, look};
+use vax_debug::{Failure, Goal, Marks, Place, Plan, Snapshot, frame_goal, locate, look};
 use vax_debug_words::Expression;
 use vax_machine::Machine;
 use vax_outside::{PageFile, Sink};
@@ -260,7 +260,7 @@ fn go_to<F: PageFile, K: Sink>(
     }
 }
 
-/// Makes steps up to an address, a stop or the limit, and tells where and why it stopped.
+/// Makes steps up to an address that an area has, a stop or the limit, and tells where and why it stopped.
 pub fn until<F: PageFile, K: Sink>(
     to: &Expression,
     setting: &Setting,
@@ -280,12 +280,13 @@ pub fn until<F: PageFile, K: Sink>(
         (K.faults sink.new) }
     ensures only { OnlyReplied (K.contents sink.old) (K.contents sink.new) }
 {
-    match evaluate(setting.legend, to, machine, file) {
-        Ok(Some(address)) => {
+    match locate(setting.legend, to, machine, file) {
+        Ok(Place::Inside(address)) => {
             let goal = Goal { address, least: 0 };
             go_to(goal, setting, plan, machine, file, sink)
         }
-        Ok(None) => tell_no_value(sink),
+        Ok(Place::Outside) => tell_outside(sink),
+        Ok(Place::Unknown) => tell_no_value(sink),
         Err(_) => Err(Failure::PageFault),
     }
 }

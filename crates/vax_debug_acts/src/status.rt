@@ -8,7 +8,7 @@ ghost use Rattle.vax_debug_words.specs.Expressions.{IsExpression};
 ghost use Rattle.vax_debug_acts.specs.Acting.{ActsFrom};
 ghost use Rattle.vax_debug_acts.specs.Attempts.{field_act, field_put, status_act, status_line, status_put};
 
-use crate::reply::{reply_with, tell_no_value};
+use crate::reply::{reply_with, tell_no_number};
 use crate::stops::Setting;
 use vax_debug::{Failure, deposit_field, deposit_status, evaluate};
 use vax_debug_words::{Expression, Field};
@@ -61,7 +61,7 @@ pub fn deposit_into_status<F: PageFile, K: Sink>(
 {
     match evaluate(setting.legend, given, machine, file) {
         Ok(Some(value)) => put_into_status(value, machine, file, sink),
-        Ok(None) => tell_no_value(sink),
+        Ok(None) => tell_no_number(setting.legend, given, sink),
         Err(_) => Err(Failure::PageFault),
     }
 }
@@ -107,7 +107,7 @@ pub fn deposit_into_field<F: PageFile, K: Sink>(
 {
     match evaluate(setting.legend, given, machine, file) {
         Ok(Some(value)) => put_into_field(field, value, machine, file, sink),
-        Ok(None) => tell_no_value(sink),
+        Ok(None) => tell_no_number(setting.legend, given, sink),
         Err(_) => Err(Failure::PageFault),
     }
 }

@@ -1,7 +1,7 @@
 -- The values of names, the names of addresses, and the statements that are there.
-use Rattle.std.specs.Prelude.{ℕ, ◌+◌, ◌-◌, ◌==◌, ◌&&◌, Bool, true, nat_le, nat_lt, List, [], ◌∷◌, Option, None, Some, if◌then◌else◌}
+use Rattle.std.specs.Prelude.{ℕ, ◌+◌, ◌-◌, ◌==◌, ◌&&◌, ◌||◌, not, Bool, true, is_some, nat_le, nat_lt, List, [], ◌∷◌, Option, None, Some, if◌then◌else◌}
 use Rattle.std.specs.Str.{bytes_eq}
-use Rattle.vax_debug_words.specs.Expressions.{longword}
+use Rattle.vax_debug_words.specs.Expressions.{is_hexadecimal, longword}
 use Rattle.vax_debug_names.specs.declared.Symbol.{Symbol}
 use Rattle.vax_debug_names.specs.declared.SourceLine.{SourceLine}
 use Rattle.vax_debug_names.specs.declared.Near.{Near}
@@ -19,19 +19,28 @@ or_number None word = longword word
 unfoldable pub number_of : List Symbol → List ℕ → Option ℕ
 number_of symbols word = or_number (value_of symbols word) word
 
+-- digits that are no name, of a number of more than 32 bits
+unfoldable pub is_too_large : List Symbol → List ℕ → Bool
+is_too_large symbols word = not (is_some (number_of symbols word)) && is_hexadecimal word
+
 -- a distance is less than the one that was found, if one was
 abbrev pub is_less : ℕ → Option Near → Bool
 is_less distance None = true
 is_less distance (Some near) = nat_lt distance near.distance
 
--- a symbol that is an address in the program, at or below this one
-abbrev pub is_below : ℕ → Symbol → Bool
-is_below address symbol = symbol.is_place && nat_le symbol.value address
+-- a symbol names its own address, and the bytes up to its section's end
+abbrev pub is_within : (reach distance : ℕ) → Bool
+is_within reach distance = distance == 0 || nat_lt distance reach
+
+-- a symbol that is an address in the program, and names this one
+abbrev pub reaches : ℕ → Symbol → Bool
+reaches address symbol =
+    (symbol.is_place && nat_le symbol.value address) && is_within symbol.reach (address - symbol.value)
 
 -- of what was found and a symbol the nearer: the symbol only where it is
 unfoldable pub nearer : (index address : ℕ) → Symbol → Option Near → Option Near
 nearer index address symbol found =
-    if is_below address symbol && is_less (address - symbol.value) found
+    if reaches address symbol && is_less (address - symbol.value) found
     then Some (record { index = index; distance = address - symbol.value })
     else found
 

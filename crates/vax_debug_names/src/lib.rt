@@ -4,7 +4,7 @@
 ghost use Rattle.std.specs.Prelude.{◌≡◌, option_map};
 ghost use Rattle.vax_debug_names.specs.Names as spec;
 
-use vax_debug_words::longword;
+use vax_debug_words::{is_hexadecimal, longword};
 use vax_prelude::Prelude;
 use vax_space::Bytes;
 
@@ -17,6 +17,8 @@ pub struct Symbol {
     pub value: u32,
     /// Whether that is an address in the program, and no mere number.
     pub is_place: bool,
+    /// How many bytes there are from that address up to the end of what its module gives to the section; none where the address isn't in it.
+    pub reach: u32,
 }
 
 /// A statement of a source, and the address of its first byte.
@@ -61,7 +63,8 @@ pub fn value_of(symbols: &[Symbol], name: &[u8]) -> Option<u32>
     None
 }
 
-/// What a word stands for: a symbol's value, or else, with no symbol of the name, a number of 1 to 8 hexadecimal digits.
+/// What a word stands for: a symbol's value, or else, with no symbol of the name, a number in hexadecimal digits. No symbol begins with a digit, so one that
+/// begins with 0 is a number.
 #[tactic(auto, unfolding(crate::specs::Names::number_of))]
 pub fn number_of(symbols: &[Symbol], word: &[u8]) -> Option<u32>
     ensures { result ≡ spec.number_of symbols.now word.now }
@@ -72,11 +75,26 @@ pub fn number_of(symbols: &[Symbol], word: &[u8]) -> Option<u32>
     }
 }
 
-/// Whether a symbol is an address in the program at or below this one.
-fn is_below(symbol: &Symbol, address: u32) -> bool
-    ensures { result ≡ spec.is_below address symbol.now }
+/// Whether a word stands for nothing since it is a number of more than 32 bits.
+#[tactic(auto, unfolding(crate::specs::Names::is_too_large))]
+pub fn is_too_large(symbols: &[Symbol], word: &[u8]) -> bool
+    ensures { result ≡ spec.is_too_large symbols.now word.now }
 {
-    symbol.is_place && symbol.value <= address
+    number_of(symbols, word).is_none() && is_hexadecimal(word)
+}
+
+/// Whether a symbol that reaches so far names an address at this distance.
+fn is_within(reach: u32, distance: u32) -> bool
+    ensures { result ≡ spec.is_within reach distance }
+{
+    distance == 0 || distance < reach
+}
+
+/// Whether a symbol is an address in the program, and names this one: its own, or a byte up to its section's end.
+fn reaches(symbol: &Symbol, address: u32) -> bool
+    ensures { result ≡ spec.reaches address symbol.now }
+{
+    symbol.is_place && symbol.value <= address && is_within(symbol.reach, address - symbol.value)
 }
 
 /// Whether a distance is less than the one that was found, if one was.
@@ -94,7 +112,7 @@ fn is_less(distance: u32, found: Option<Near>) -> bool
 fn nearer(index: usize, address: u32, symbol: &Symbol, found: Option<Near>) -> Option<Near>
     ensures { result ≡ spec.nearer index address symbol.now found }
 {
-    if !is_below(symbol, address) {
+    if !reaches(symbol, address) {
         return found;
     }
     let distance = address - symbol.value;
@@ -105,8 +123,8 @@ fn nearer(index: usize, address: u32, symbol: &Symbol, found: Option<Near>) -> O
     }
 }
 
-/// An address as a symbol and a distance: of the symbols that are addresses at or below it the highest, and of those of one address the first; none where
-/// there is no such symbol.
+/// An address as a symbol and a distance: of the symbols that name it the one with the highest address, and of those of one address the first; none where there is no such
+/// symbol. Each names its own address, and those up to its section's end.
 pub fn nearest(symbols: &[Symbol], address: u32) -> Option<Near>
     ensures { result ≡ spec.nearest symbols.now address }
 {

@@ -40,8 +40,12 @@ enum Act {
     IntoRegister(u32),
     /// A word into memory.
     Word(u32, u32),
+    /// A byte into memory.
+    Byte(u32, u32),
     /// A quadword into memory.
     Quadword(u32, u64),
+    /// A number of more than 64 bits into memory.
+    TooLarge(u32),
     EvictAt(u32),
     EvictAll,
 }
@@ -72,6 +76,13 @@ fn acts(
         Act::Word(to, given) => {
             let given = Value::Number(Size::Word, number(given));
             deposit_into_memory(&number(to), &given, setting, machine, file, sink)
+        }
+        Act::Byte(to, given) => {
+            let given = Value::Number(Size::Byte, number(given));
+            deposit_into_memory(&number(to), &given, setting, machine, file, sink)
+        }
+        Act::TooLarge(to) => {
+            deposit_into_memory(&number(to), &Value::TooLarge, setting, machine, file, sink)
         }
         Act::Quadword(to, given) => {
             let given = Value::Quadword(given);
@@ -153,6 +164,55 @@ fn values_are_changed(rt: HostRuntime) -> Result<(), Fail> {
     let want = "OK\nOK\n?NO SUCH BYTES\n";
     let (_, machine) = replies(&rt, rt.alloc(), &CALLS, &asked, want)?;
     assert!(rt; machine.core().regs.get(2) == Some(&0x2A));
+    Ok(())
+}
+
+/// A byte takes 0 to FF and -80 to -1.
+#[test]
+fn bytes_that_have_no_room_are_refused(rt: HostRuntime) -> Result<(), Fail> {
+    let at = SUBROUTINE;
+    let asked = [
+        Act::Byte(at, 0xFF),
+        Act::Byte(at, 0xFFFF_FF80),
+        Act::Byte(at, 0x1FF),
+        Act::Byte(at, 0x100),
+        Act::Byte(at, 0xFFFF_FF7F),
+    ];
+    let want = "OK\nOK\n?VALUE TOO LARGE\n?VALUE TOO LARGE\n?VALUE TOO LARGE\n";
+    replies(&rt, rt.alloc(), &CALLS, &asked, want)?;
+    Ok(())
+}
+
+/// A word takes 0 to FFFF and -8000 to -1.
+#[test]
+fn words_that_have_no_room_are_refused(rt: HostRuntime) -> Result<(), Fail> {
+    let at = SUBROUTINE;
+    let asked = [
+        Act::Word(at, 0xFFFF),
+        Act::Word(at, 0xFFFF_8000),
+        Act::Word(at, 0x0001_2345),
+        Act::Word(at, 0xFFFF_7FFF),
+        Act::TooLarge(at),
+    ];
+    let want = "OK\nOK\n?VALUE TOO LARGE\n?VALUE TOO LARGE\n?VALUE TOO LARGE\n";
+    replies(&rt, rt.alloc(), &CALLS, &asked, want)?;
+    Ok(())
+}
+
+#[test]
+fn an_address_in_no_area_is_told(rt: HostRuntime) -> Result<(), Fail> {
+    let outside = 0x8000_0600;
+    let asked = [
+        Act::StopAt(outside),
+        Act::Until(outside),
+        Act::EvictAt(outside),
+        Act::ClearAt(outside),
+        Act::EvictAt(0x8000_05FF),
+    ];
+    let want = "?IN NO AREA\n?IN NO AREA\n?IN NO AREA\nOK\nOK\n";
+    let (plan, machine) = replies(&rt, rt.alloc(), &CALLS, &asked, want)?;
+    assert!(rt; !plan.breaks.has(outside));
+    assert!(rt; machine.steps() == 0);
     Ok(())
 }
 

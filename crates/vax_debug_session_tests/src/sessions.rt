@@ -21,9 +21,15 @@ struct Talk<'a> {
     replies: &'a [u8],
 }
 
-/// Holds a session on the machine of the calls, whose steps stop where a plan says; the answer is the machine behind it.
-fn holds<R: Abort>(rt: &R, alloc: Global, plan: &mut Plan, talk: &Talk) -> Result<Machine, Fail> {
-    let mut machine = machine_with(alloc, &CALLS)?;
+/// Holds a session on a machine with a program, whose steps stop where a plan says; the answer is the machine behind it.
+fn holds_on<R: Abort>(
+    rt: &R,
+    alloc: Global,
+    program: &[u8],
+    plan: &mut Plan,
+    talk: &Talk,
+) -> Result<Machine, Fail> {
+    let mut machine = machine_with(alloc, program)?;
     let mut a = surroundings(alloc, talk.room)?;
     let legend = untold();
     let setting = Setting {
@@ -44,6 +50,11 @@ fn holds<R: Abort>(rt: &R, alloc: Global, plan: &mut Plan, talk: &Talk) -> Resul
     assert!(rt; machine.steps() == talk.steps);
     assert!(rt; a.sink.bytes(Chan::Report) == talk.replies);
     Ok(machine)
+}
+
+/// The same, on the machine of the calls.
+fn holds<R: Abort>(rt: &R, alloc: Global, plan: &mut Plan, talk: &Talk) -> Result<Machine, Fail> {
+    holds_on(rt, alloc, &CALLS, plan, talk)
 }
 
 /// The same, with no stops at the start.
@@ -173,6 +184,30 @@ fn attempts_and_pages_are_told(rt: HostRuntime) -> Result<(), Fail> {
     talks(&rt, rt.alloc(), &talk)
 }
 
+/// MOVC3 of 520 bytes from 80000220 to 80000300, of which a part moves the last 40: those of the source's second page; MOVC3 of 16 bytes from 80000380 to 80000500; HALT.
+const MOVES: [u8; 28] = [
+    0x28, 0x8F, 8, 2, 0x9F, 0x20, 2, 0, 0x80, 0x9F, 0, 3, 0, 0x80, 0x28, 0x8F, 16, 0, 0x9F, 0x80,
+    3, 0, 0x80, 0x9F, 0, 5, 0, 0x80,
+];
+
+/// A string instruction that an attempt makes a part of is told, and one that it makes whole isn't.
+#[test]
+fn an_attempt_tells_of_parts(rt: HostRuntime) -> Result<(), Fail> {
+    let talk = Talk {
+        lines: b"turn\nturn\nturn\nturn\n",
+        prompts: false,
+        room: 400,
+        end: SessionEnd::Read,
+        steps: 2,
+        replies: b"MISSED 80000200\n\
+            MISSED 80000400\n\
+            IN PARTS\nAT 8000020E: MOVC3 I^#^X0010,@#^X80000380,@#^X80000500\n\
+            AT 8000021C: HALT\n",
+    };
+    holds_on(&rt, rt.alloc(), &MOVES, &mut Plan::new(), &talk)?;
+    Ok(())
+}
+
 /// BSBB pushes 80000202; a deposit is no change; a stop and a change come together.
 #[test]
 fn a_watch_stops_behind_a_change(rt: HostRuntime) -> Result<(), Fail> {
@@ -195,6 +230,28 @@ fn a_watch_stops_behind_a_change(rt: HostRuntime) -> Result<(), Fail> {
             ENDING BREAK\nWATCH 800005FC: 00000007 -> 80000202\nAT 80000206: INCL R2\n\
             OK\n\
             NO WATCHES\n",
+    };
+    talks(&rt, rt.alloc(), &talk)
+}
+
+/// Nothing is changed by a line that is refused.
+#[test]
+fn values_and_places_are_refused(rt: HostRuntime) -> Result<(), Fail> {
+    let talk = Talk {
+        lines: b"dep r2 100000000\ndep r2 0100000000\ndep r2 none\ndep r2 00000000001\ndep psl 100000000\n\
+            dep/b 80000406 1ff\ndep/w 80000406 12345\ndep/q 80000406 10000000000000000\n\
+            dep/b 80000406 0-1\nex/b 80000406\ndep/a 80000406 \"HELLO\"\nex/a 80000406 5\n\
+            break 100\nwatch 100\nuntil 100\nevict 100\nshow\nshow watches\n\
+            watch 800005fe\nex r2\n",
+        prompts: false,
+        room: 700,
+        end: SessionEnd::Read,
+        steps: 0,
+        replies: b"?VALUE TOO LARGE\n?VALUE TOO LARGE\n?NO SUCH NAME OR ADDRESS\nOK\n?VALUE TOO LARGE\n\
+            ?VALUE TOO LARGE\n?VALUE TOO LARGE\n?VALUE TOO LARGE\n\
+            OK\n80000406: FF\nOK\n80000406: HELLO\n\
+            ?IN NO AREA\n?IN NO AREA\n?IN NO AREA\n?IN NO AREA\nNO BREAKS\nNO WATCHES\n\
+            WATCH 800005FE: 4\nR2 00000001\n",
     };
     talks(&rt, rt.alloc(), &talk)
 }

@@ -1,12 +1,15 @@
 //! The symbols and the source lines of a program's files, for its debugger: the names of its sources, with the addresses and the numbers that these stand
-//! for in the program that they are linked to, and the statements of its sources, with the addresses of their first bytes there.
+//! for in the program that they are linked to, those of the stacks and the tables beside it, and the statements of its sources, with the addresses of their first bytes.
 #![tactic(auto)]
 
-ghost use Rattle.std.specs.Prelude.{◌≡◌, ◌++◌, ◌≤◌, IfOk, OnOk, length, slice_index};
+ghost use Rattle.std.specs.Prelude.{◌≡◌, ◌++◌, ◌≤◌, IfOk, OnOk, length, slice_get, slice_index};
 ghost use Rattle.vax_asm_listing.specs.Listed.{texts};
 ghost use Rattle.vax_link.specs.Names.{low_longword};
 ghost use Rattle.vax_debug_symbols.specs.Symbols as spec;
 
+mod fixtures;
+
+use crate::fixtures::push_fixtures;
 use std::alloc::{AllocError, Global};
 use vax_asm_listing::{Label, ListingError, Notes, Row, trace_files};
 use vax_debug_names::{SourceLine, Symbol};
@@ -14,7 +17,7 @@ use vax_dialect::Dialect;
 use vax_image::Base;
 use vax_lex::Value;
 use vax_link::addresses;
-use vax_module::{Bytes, Module};
+use vax_module::{Bytes, Module, Section};
 use vax_program::is_linked;
 use vax_space::NoMemory;
 
@@ -25,6 +28,8 @@ struct Meaning {
     value: u32,
     /// Whether it is an address.
     is_place: bool,
+    /// How many bytes there are from there up to the end of what the module gives to the section.
+    reach: u32,
 }
 
 /// The low 32 bits of a number.
@@ -44,9 +49,42 @@ fn place_of(places: &[u32], section: usize) -> u32
     }
 }
 
+/// How many bytes a module gives to a section: its own, or those that it lays over others.
+fn size_of(section: &Section) -> usize
+    ensures { result ≡ spec.size_of section.now }
+{
+    if section.storage == 0 {
+        section.bytes.as_slice().len()
+    } else {
+        section.storage as usize
+    }
+}
+
+/// How many bytes a module gives to one of its sections.
+fn size_in(sections: &[Section], section: usize) -> usize
+    ensures { result ≡ spec.size_in (slice_get sections.now section) }
+{
+    match sections.get(section) {
+        None => 0,
+        Some(section) => size_of(section),
+    }
+}
+
+/// How many bytes stand from an offset on, where it is one of a byte.
+fn bytes_from(size: usize, offset: u64) -> u32
+    ensures { result ≡ spec.bytes_from size offset }
+{
+    let size = size as u64;
+    if size <= offset {
+        0
+    } else {
+        ((size - offset) % 0x1_0000_0000) as u32
+    }
+}
+
 /// What a value of a module stands for, whose sections have these places; nothing where another module says it.
-fn meaning_of(places: &[u32], value: Option<Value>) -> Option<Meaning>
-    ensures { result ≡ spec.meaning_of places.now value }
+fn meaning_of(places: &[u32], sections: &[Section], value: Option<Value>) -> Option<Meaning>
+    ensures { result ≡ spec.meaning_of places.now sections.now value }
 {
     match value {
         None => None,
@@ -54,10 +92,12 @@ fn meaning_of(places: &[u32], value: Option<Value>) -> Option<Meaning>
         Some(Value::Absolute(n)) => Some(Meaning {
             value: low_longword(n),
             is_place: false,
+            reach: 0,
         }),
         Some(Value::Section { section, offset }) => Some(Meaning {
             value: place_of(places, section as usize).wrapping_add(low_longword(offset)),
             is_place: true,
+            reach: bytes_from(size_in(sections, section as usize), offset.cast_unsigned()),
         }),
     }
 }
@@ -70,6 +110,7 @@ fn symbol_of(alloc: Global, name: &[u8], meaning: Meaning) -> Result<Symbol, All
         name: Bytes::from(name.to_vec(alloc)?),
         value: meaning.value,
         is_place: meaning.is_place,
+        reach: meaning.reach,
     })
 }
 
@@ -79,29 +120,31 @@ fn push_symbol(
     alloc: Global,
     symbols: &mut Vec<Symbol>,
     places: &[u32],
+    sections: &[Section],
     label: &Label,
 ) -> Result<(), AllocError>
     ensures { OnOk result (symbols.new.items
-        ≡ symbols.old.items ++ spec.symbols_of places.now label.now) }
+        ≡ symbols.old.items ++ spec.symbols_of places.now sections.now label.now) }
 {
-    if let Some(meaning) = meaning_of(places, label.value) {
+    if let Some(meaning) = meaning_of(places, sections, label.value) {
         symbols.push(symbol_of(alloc, label.name.as_slice(), meaning)?)?;
     }
     Ok(())
 }
 
-/// Appends the symbols of a module's names.
+/// Appends the symbols of the names of a module with these sections.
 fn push_names(
     alloc: Global,
     symbols: &mut Vec<Symbol>,
     places: &[u32],
+    sections: &[Section],
     labels: &[Label],
 ) -> Result<(), AllocError>
     ensures { OnOk result (symbols.new.items
-        ≡ symbols.old.items ++ spec.symbols_in places.now labels.now) }
+        ≡ symbols.old.items ++ spec.symbols_in places.now sections.now labels.now) }
 {
     for label in labels {
-        push_symbol(alloc, symbols, places, label)?;
+        push_symbol(alloc, symbols, places, sections, label)?;
     }
     Ok(())
 }
@@ -124,9 +167,9 @@ fn push_modules(
         let Some((note, others)) = left.split_first() else {
             return Ok(());
         };
-        let count = module.sections.as_slice().len();
-        let (own, behind) = rest.split_at(count.min(rest.len()));
-        push_names(alloc, symbols, own, &note.labels)?;
+        let sections = module.sections.as_slice();
+        let (own, behind) = rest.split_at(sections.len().min(rest.len()));
+        push_names(alloc, symbols, own, sections, &note.labels)?;
         rest = behind;
         left = others;
     }
@@ -214,14 +257,16 @@ pub struct Table {
     pub lines: Vec<SourceLine>,
 }
 
-/// A table without entries.
-fn no_table(alloc: Global) -> Table
-    ensures { spec.IsEmpty result }
+/// A table of what lies beside each program alone.
+fn no_table(alloc: Global, base: Base) -> Result<Table, AllocError>
+    ensures { IfOk result (spec.HasNone base) }
 {
-    Table {
-        symbols: Vec::new(alloc),
+    let mut symbols = Vec::new(alloc);
+    push_fixtures(alloc, &mut symbols, base)?;
+    Ok(Table {
+        symbols,
         lines: Vec::new(alloc),
-    }
+    })
 }
 
 /// The symbols and the lines of modules with what these left, linked for a base.
@@ -234,12 +279,14 @@ fn table_of_modules(
     ensures { IfOk result (spec.IsLinked base modules.now notes.now) }
 {
     let Some(places) = addresses(alloc, base, modules)? else {
-        return Ok(no_table(alloc));
+        return no_table(alloc, base);
     };
-    let mut table = no_table(alloc);
-    push_modules(alloc, &mut table.symbols, &places, modules, notes)?;
-    push_all_rows(alloc, &mut table.lines, &places, modules, notes)?;
-    Ok(table)
+    let mut symbols = Vec::new(alloc);
+    push_modules(alloc, &mut symbols, &places, modules, notes)?;
+    push_fixtures(alloc, &mut symbols, base)?;
+    let mut lines = Vec::new(alloc);
+    push_all_rows(alloc, &mut lines, &places, modules, notes)?;
+    Ok(Table { symbols, lines })
 }
 
 /// Whether files are an image or an executable, which stands alone.
@@ -256,7 +303,8 @@ fn is_linked_alone(files: &[Vec<u8>]) -> bool
 /// the order in which they first appear, and the statements that have bytes, in the same order. Local labels are left out, and so are names that another module
 /// defines, or that rest on such. A statement of an expansion is one of the line where the macro is called or the repeat begins.
 ///
-/// An image or an executable has none, and neither have sources with a fault, or for which there is no room. [`NoMemory`] where memory is refused.
+/// An image or an executable has none, and neither have sources with a fault, or for which there is no room. After these symbols come those of the stacks, of
+/// the system beside a user's program, of its control block and of the page tables, which each program has. [`NoMemory`] where memory is refused.
 pub fn table_of_files(
     alloc: Global,
     dialect: Dialect,
@@ -267,11 +315,11 @@ pub fn table_of_files(
     ensures { IfOk result (spec.IsTable dialect base (texts files.now)) }
 {
     if is_linked_alone(files) {
-        return Ok(no_table(alloc));
+        return Ok(no_table(alloc, base)?);
     }
     match trace_files(alloc, dialect, files) {
         Ok((modules, notes)) => Ok(table_of_modules(alloc, base, &modules, &notes)?),
-        Err(ListingError::Source { .. }) => Ok(no_table(alloc)),
+        Err(ListingError::Source { .. }) => Ok(no_table(alloc, base)?),
         // Nothing is linked here.
         Err(ListingError::Link(_) | ListingError::NoMemory) => Err(NoMemory),
     }

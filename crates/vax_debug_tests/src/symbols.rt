@@ -1,7 +1,7 @@
 //! Tests of the symbols and the source lines of files. Expected values are worked by hand.
 use std::test::Fail;
 use vax_debug_names::{Legend, SourceLine, Symbol, line_at, number_of};
-use vax_debug_replies::push_source_line;
+use vax_debug_replies::{push_place, push_source_line};
 use vax_debug_symbols::{Table, table_of_files};
 use vax_dialect::Dialect;
 use vax_image::Base;
@@ -40,21 +40,112 @@ fn table_of_one(rt: &HostRuntime, text: &str) -> Result<Table, Fail> {
     Ok(table_of_files(rt.alloc(), Dialect::Vax, Base::User, &files)?)
 }
 
-/// Whether a symbol has this name, and this value.
-fn is(symbol: &Symbol, name: &[u8], value: u32, is_place: bool) -> bool {
-    symbol.name.as_slice() == name && symbol.value == value && symbol.is_place == is_place
+/// Whether a symbol has this name and this value, and reaches so far.
+fn is(symbol: &Symbol, name: &[u8], value: u32, reach: u32) -> bool {
+    symbol.name.as_slice() == name
+        && symbol.value == value
+        && symbol.reach == reach
+        && symbol.is_place
+}
+
+/// Whether a symbol is this number.
+fn is_number(symbol: &Symbol, name: &[u8], value: u32) -> bool {
+    symbol.name.as_slice() == name && symbol.value == value && !symbol.is_place
 }
 
 #[test]
 fn names_sources(rt: HostRuntime) -> Result<(), Fail> {
     let found = table(&rt, Base::User, [MAIN, WORDS])?;
-    let [size, start, last, puts] = found.symbols.as_slice() else {
+    let [size, start, last, puts, ..] = found.symbols.as_slice() else {
         panic!(rt; "not four symbols");
     };
-    assert!(rt; is(size, b"SIZE", 12, false));
-    assert!(rt; is(start, b"START", 0x200, true));
-    assert!(rt; is(last, b"LAST", 0x20A, true));
-    assert!(rt; is(puts, b"PUTS", 0x400, true));
+    assert!(rt; found.symbols.len() == 12);
+    assert!(rt; is_number(size, b"SIZE", 12));
+    // Of a section of 11 bytes, and of one of 3.
+    assert!(rt; is(start, b"START", 0x200, 11));
+    assert!(rt; is(last, b"LAST", 0x20A, 1));
+    assert!(rt; is(puts, b"PUTS", 0x400, 3));
+    Ok(())
+}
+
+/// Places before a section, at its end and behind it, and one in a section that is laid over another.
+const EDGES: &str = "        .PSECT CODE,NOWRT
+        .ENTRY START,0
+        RET
+END:
+BEFORE = START-4
+BEHIND = END+1
+        .PSECT SHARED,OVR
+FIRST:  .BLKL 1
+SECOND: .BLKL 1
+        .END START
+";
+
+#[test]
+fn names_reach_to_their_section_s_end(rt: HostRuntime) -> Result<(), Fail> {
+    let file = Vec::from_slice(rt.alloc(), EDGES.as_bytes())?;
+    let files = vec![in rt.alloc(); file]?;
+    let found = table_of_files(rt.alloc(), Dialect::Vms, Base::User, &files)?;
+    let [start, end, before, behind, first, second, ..] = found.symbols.as_slice() else {
+        panic!(rt; "not six symbols");
+    };
+    assert!(rt; is(start, b"START", 0x200, 3));
+    assert!(rt; is(end, b"END", 0x203, 0));
+    assert!(rt; is(before, b"BEFORE", 0x1FC, 0));
+    assert!(rt; is(behind, b"BEHIND", 0x204, 0));
+    assert!(rt; is(first, b"FIRST", 0x400, 8));
+    assert!(rt; is(second, b"SECOND", 0x404, 4));
+    Ok(())
+}
+
+/// The text of an address.
+fn placed(table: &Table, address: u32) -> Text {
+    let legend = Legend {
+        symbols: &table.symbols,
+        lines: &table.lines,
+        names: &[],
+        preludes: &[],
+    };
+    let mut text = Text::new();
+    push_place(&mut text, &legend, address);
+    text
+}
+
+/// Each stack and each table has a name up to its last byte, and the system up to the stack of kernel mode.
+#[test]
+fn names_stacks_and_tables(rt: HostRuntime) -> Result<(), Fail> {
+    let rows: [(u32, &[u8]); 15] = [
+        (0x203, b"00000203 START+3"),
+        (0x20B, b"0000020B"),
+        (0x403, b"00000403"),
+        (0x7FFE_07FF, b"7FFE07FF EXECUTIVE_STACK+7FF"),
+        (0x7FFE_0800, b"7FFE0800"),
+        (0x7FFE_8004, b"7FFE8004 SUPERVISOR_STACK+4"),
+        (0x7FFF_FFFC, b"7FFFFFFC USER_STACK+7FFC"),
+        (0x8000_0040, b"80000040 SCB+40"),
+        (0x8000_0220, b"80000220 SYSTEM+20"),
+        (0x800F_FFFF, b"800FFFFF SYSTEM+FFDFF"),
+        (0x8010_1FFC, b"80101FFC KERNEL_STACK+1FFC"),
+        (0x8010_2000, b"80102000"),
+        (0x8011_0000, b"80110000 INTERRUPT_STACK"),
+        (0x8020_0000, b"80200000 PAGE_TABLES"),
+        (0x8024_0000, b"80240000"),
+    ];
+    let found = table(&rt, Base::User, [MAIN, WORDS])?;
+    for (address, text) in rows {
+        assert!(rt; placed(&found, address).as_slice() == text);
+    }
+    Ok(())
+}
+
+/// A program for the bare machine is the system itself, and has no other name.
+#[test]
+fn a_bare_program_is_the_system(rt: HostRuntime) -> Result<(), Fail> {
+    let found = table(&rt, Base::Bare, [MAIN, WORDS])?;
+    assert!(rt; placed(&found, 0x8000_0203).as_slice() == b"80000203 START+3".as_slice());
+    assert!(rt; placed(&found, 0x8000_020B).as_slice() == b"8000020B".as_slice());
+    assert!(rt; placed(&found, 0x8010_0004).as_slice() == b"80100004 KERNEL_STACK+4".as_slice());
+    assert!(rt; number_of(&found.symbols, b"SYSTEM").is_none());
     Ok(())
 }
 
@@ -69,9 +160,10 @@ fn names_bare_sources(rt: HostRuntime) -> Result<(), Fail> {
 #[test]
 fn names_nothing_without_sources(rt: HostRuntime) -> Result<(), Fail> {
     let image = table_of_one(&rt, "VAXI")?;
-    assert!(rt; image.symbols.is_empty() && image.lines.is_empty());
+    assert!(rt; image.symbols.len() == 8 && image.lines.is_empty());
+    assert!(rt; number_of(&image.symbols, b"SYSTEM") == Some(0x8000_0200));
     let wrong = table_of_one(&rt, "A:      FROB\n        .END A\n")?;
-    assert!(rt; wrong.symbols.is_empty() && wrong.lines.is_empty());
+    assert!(rt; wrong.symbols.len() == 8 && wrong.lines.is_empty());
     Ok(())
 }
 

@@ -88,7 +88,7 @@ fn tells_what_is_refused(rt: HostRuntime) -> Result<(), Fail> {
     assert!(rt; refused(b"ex r3+4") == Some(Refusal::Usage(Command::Examine)));
     assert!(rt; refused(b"break r3") == Some(Refusal::Usage(Command::Break)));
     assert!(rt; refused(b"de/in 200 1") == Some(Refusal::Usage(Command::Deposit)));
-    assert!(rt; refused(b"de/q 200 11112222333344445") == Some(Refusal::Usage(Command::Deposit)));
+    assert!(rt; refused(b"de/q 200 1111222233334444X") == Some(Refusal::Usage(Command::Deposit)));
     assert!(rt; refused(&[b' '; 1_024]).is_none());
     assert!(rt; refused(&[b' '; 1_025]) == Some(Refusal::Length));
     Ok(())
@@ -192,6 +192,59 @@ fn reads_values(rt: HostRuntime) -> Result<(), Fail> {
     assert!(rt;
         matches!(&put, Line::Request(Request::DepositMemory { value: Value::Text(text), .. })
         if text.as_slice() == b"Hello".as_slice())
+    );
+    Ok(())
+}
+
+/// The characters that a `DEPOSIT/ASCII` of a word puts.
+fn is_put(line: &[u8], text: &[u8]) -> bool {
+    match read_line(line) {
+        Line::Request(
+            Request::DepositMemory {
+                value: Value::Text(found),
+                ..
+            },
+        ) => found.as_slice() == text,
+        _ => false,
+    }
+}
+
+#[test]
+fn takes_quotes_off(rt: HostRuntime) -> Result<(), Fail> {
+    assert!(rt; is_put(b"dep/a 200 \"HELLO\"", b"HELLO"));
+    assert!(rt; is_put(b"dep/a 200 HELLO", b"HELLO"));
+    assert!(rt; is_put(b"dep/a 200 \"\"\"", b"\""));
+    assert!(rt; is_put(b"dep/a 200 \"\"A\"\"", b"\"A\""));
+    assert!(rt; is_put(b"dep/a 200 A\"B", b"A\"B"));
+    assert!(rt; is_put(b"dep/a 200 AB\"", b"AB\""));
+    assert!(rt; refused(b"dep/a 200 \"") == Some(Refusal::Usage(Command::Deposit)));
+    assert!(rt; refused(b"dep/a 200 \"\"") == Some(Refusal::Usage(Command::Deposit)));
+    assert!(rt; refused(b"dep/a 200 \"HELLO") == Some(Refusal::Usage(Command::Deposit)));
+    Ok(())
+}
+
+/// Digits of more than 64 bits are a number that is too large; zeros before a number aren't counted.
+#[test]
+fn tells_quadwords_from_larger_numbers(rt: HostRuntime) -> Result<(), Fail> {
+    let put = read_line(b"de/q 200 11112222333344445");
+    assert!(rt;
+        matches!(
+            &put,
+            Line::Request(Request::DepositMemory {
+                value: Value::TooLarge,
+                ..
+            })
+        )
+    );
+    let put = read_line(b"de/q 200 00ffffffffffffffff");
+    assert!(rt;
+        matches!(
+            &put,
+            Line::Request(Request::DepositMemory {
+                value: Value::Quadword(0xFFFF_FFFF_FFFF_FFFF),
+                ..
+            })
+        )
     );
     Ok(())
 }

@@ -1,7 +1,7 @@
 -- Numbers, names and expressions of a debugger's line.
 use Rattle.std.specs.Prelude.{ℕ, ◌<◌, ◌≤◌, ◌-◌, ◌%◌, ◌^◌, ◌==◌, ◌&&◌, ◌||◌, not, Bool, nat_lt, nat_le, List, [], ◌∷◌, codes, length, take, drop, map, Option, None, Some, option_map, if◌then◌else◌}
 use Rattle.std.specs.List.{list_all, prefix_len}
-use Rattle.std.specs.Char.{to_ascii_uppercase, is_ascii_alphanumeric}
+use Rattle.std.specs.Char.{to_ascii_uppercase, is_ascii_alphanumeric, is_ascii_hexdigit}
 use Rattle.vax_lines.specs.Lines.{Text}
 use Rattle.vax_lines.specs.Numbers.{number, number_in}
 use Rattle.vax_debug_words.specs.Commands.{is_called}
@@ -9,9 +9,13 @@ use Rattle.vax_debug_words.specs.declared.request.Base.{Base}
 use Rattle.vax_debug_words.specs.declared.request.Base.TheVariants as is
 use Rattle.vax_debug_words.specs.declared.request.Expression.{Expression}
 
--- 1 to 8 hexadecimal digits
+-- hexadecimal digits, one at least
+unfoldable pub is_hexadecimal : Text → Bool
+is_hexadecimal w = nat_lt 0 (length w) && list_all is_ascii_hexdigit w
+
+-- a number of 32 bits in hexadecimal digits, with zeros before it or without
 unfoldable pub longword : Text → Option ℕ
-longword w = if length w == 0 || nat_lt 8 (length w) then None else number_in 16 (2 ^ 32 - 1) w
+longword w = if length w == 0 then None else number_in 16 (2 ^ 32 - 1) w
 
 -- the number of a register in decimal, 0 to 15
 unfoldable pub register_number : Text → Option ℕ

@@ -1,12 +1,12 @@
 -- What the lines of a debugger ask for.
-use Rattle.std.specs.Prelude.{ℕ, ◌<◌, ◌≤◌, ◌+◌, ◌-◌, ◌*◌, ◌^◌, ◌==◌, ◌||◌, not, Bool, true, false, nat_lt, nat_le, List, [], ◌∷◌, codes, length, take, drop, Option, None, Some, option_map, if◌then◌else◌, IfSome}
+use Rattle.std.specs.Prelude.{ℕ, ◌<◌, ◌≤◌, ◌+◌, ◌-◌, ◌*◌, ◌^◌, ◌==◌, ◌||◌, not, Bool, true, false, nat_lt, nat_le, List, [], ◌∷◌, codes, length, slice_index, take, drop, Option, None, Some, option_map, if◌then◌else◌, IfSome}
 use Rattle.std.specs.List.{prefix_len}
 use Rattle.std.specs.Str.{bytes_eq}
 use Rattle.vax_lines.specs.Lines.{Text}
 use Rattle.vax_lines.specs.Words.{words}
 use Rattle.vax_lines.specs.Numbers.{number}
 use Rattle.vax_debug_words.specs.Commands.{begins, form_of, is_called, meaning, name_of}
-use Rattle.vax_debug_words.specs.Expressions.{IsExpression, expression, longword, register}
+use Rattle.vax_debug_words.specs.Expressions.{IsExpression, expression, is_hexadecimal, longword, register}
 use Rattle.vax_debug_words.specs.declared.command.Command.{Command}
 use Rattle.vax_debug_words.specs.declared.command.Command.TheVariants as command
 use Rattle.vax_debug_words.specs.declared.command.Form.{Form}
@@ -108,22 +108,48 @@ abbrev pub both_halves : Option ℕ → Option ℕ → Option ℕ
 both_halves None low = None
 both_halves (Some high) low = option_map (λ n. high * 2 ^ 32 + n) low
 
--- 1 to 16 hexadecimal digits
+-- a number of 64 bits in hexadecimal digits
 unfoldable pub quadword : Text → Option ℕ
 quadword w =
     if nat_le (length w) 8 then longword w
     else both_halves (longword (take (length w - 8) w)) (longword (drop (length w - 8) w))
 
--- 1 to 64 characters
+-- digits that write no number of 64 bits write a greater one
+abbrev pub quadword_or : Text → Option ℕ → Option Value
+quadword_or w (Some n) = Some (value.Quadword n)
+quadword_or w None = if is_hexadecimal w then Some value.TooLarge else None
+
+unfoldable pub quadword_value : Text → Option Value
+quadword_value w = quadword_or w (quadword w)
+
+-- what stands before the quote at the end
+unfoldable pub before_quote : Text → Option Text
+before_quote w =
+    if length w == 0 then None
+    else if slice_index w (length w - 1) == 34 then Some (take (length w - 1) w) else None
+
+-- what stands between quotes, where a word begins with one; then another must end it
+unfoldable pub unquoted : Text → Option Text
+unquoted [] = Some []
+unquoted (c ∷ cs) = if c == 34 then before_quote cs else Some (c ∷ cs)
+
+abbrev pub few_characters : Text → Option (List ℕ)
+few_characters w = if length w == 0 || nat_lt 64 (length w) then None else Some w
+
+abbrev pub characters_in : Option Text → Option (List ℕ)
+characters_in None = None
+characters_in (Some w) = few_characters w
+
+-- 1 to 64 characters, in quotes or without
 unfoldable pub characters : Text → Option (List ℕ)
-characters w = if length w == 0 || nat_lt 64 (length w) then None else Some w
+characters w = characters_in (unquoted w)
 
 -- a value in its form
 unfoldable pub value_of : Form → Text → Option Value
 value_of form.Byte w = option_map (value.Number size.Byte) (expression w)
 value_of form.Word w = option_map (value.Number size.Word) (expression w)
 value_of form.Long w = option_map (value.Number size.Long) (expression w)
-value_of form.Quad w = option_map value.Quadword (quadword w)
+value_of form.Quad w = quadword_value w
 value_of form.Ascii w = option_map value.Text (characters w)
 value_of form.Instruction w = None
 
@@ -320,6 +346,7 @@ IsSpan s = IsExpression s.from × IsCount s.count
 abbrev pub IsValue : Value → Type 0
 IsValue (value.Number s e) = IsExpression e
 IsValue (value.Quadword n) = Unit {0}
+IsValue value.TooLarge = Unit {0}
 IsValue (value.Text cs) = (1 ≤ length cs) × (length cs ≤ 64)
 
 unfoldable pub IsProper : Request → Type 0

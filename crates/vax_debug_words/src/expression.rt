@@ -1,8 +1,8 @@
 //! Numbers, names and expressions.
 ghost use Rattle.std.specs.Prelude.{◌≡◌, ◌<◌, ◌≤◌, ◌==◌, ◌||◌, map, length, IfSome};
 ghost use Rattle.std.specs.List.{list_all};
-ghost use Rattle.std.specs.Char.{to_ascii_uppercase};
-ghost use Rattle.vax_debug_words.specs.Expressions.{IsBase, IsExpression, base_len, base_of, expression, is_name_byte, longword, name, negative, numbered, offset, register, register_number, signs, behind_signs};
+ghost use Rattle.std.specs.Char.{is_ascii_hexdigit, to_ascii_uppercase};
+ghost use Rattle.vax_debug_words.specs.Expressions.{IsBase, IsExpression, base_len, base_of, expression, is_hexadecimal, is_name_byte, longword, name, negative, numbered, offset, register, register_number, signs, behind_signs};
 
 use crate::command::is_called;
 use crate::request::{Base, Expression, Name};
@@ -11,12 +11,34 @@ use vax_lines::{number, number_in};
 /// The most `@`s of an expression.
 const MOST_SIGNS: usize = 16;
 
-/// The number that 1 to 8 hexadecimal digits write; none where a word is no such digits.
+/// Whether a character is a hexadecimal digit.
+fn is_digit(byte: u8) -> bool
+    ensures { result ≡ is_ascii_hexdigit byte }
+{
+    byte.is_ascii_hexdigit()
+}
+
+/// Whether all of these characters are hexadecimal digits.
+fn are_digits(word: &[u8]) -> bool
+    ensures { result ≡ list_all is_ascii_hexdigit word.now }
+{
+    word.iter().all(|byte| is_digit(*byte))
+}
+
+/// Whether a word is hexadecimal digits, one at least.
+#[tactic(auto, unfolding(crate::specs::Expressions::is_hexadecimal))]
+pub fn is_hexadecimal(word: &[u8]) -> bool
+    ensures { result ≡ is_hexadecimal word.now }
+{
+    !word.is_empty() && are_digits(word)
+}
+
+/// The number that hexadecimal digits write; none where a word is no such digits, or the number has more than 32 bits.
 #[tactic(auto, unfolding(crate::specs::Expressions::longword))]
 pub fn longword(word: &[u8]) -> Option<u32>
     ensures { result ≡ longword word.now }
 {
-    if word.is_empty() || word.len() > 8 {
+    if word.is_empty() {
         return None;
     }
     number_in(16, u64::from(u32::MAX), word).map(|n| n as u32)

@@ -12,7 +12,7 @@ mod read;
 mod request;
 
 pub use crate::command::{COMMANDS, Command, Form, usage};
-pub use crate::expression::longword;
+pub use crate::expression::{is_hexadecimal, longword};
 pub use crate::read::{is_meant, read_line};
 pub use crate::request::{
     Base, Characters, Expression, Field, Line, Name, Refusal, Request, Size, Span, Value,

@@ -5,10 +5,10 @@ ghost use Rattle.vax_debug_words.specs.Expressions.{IsExpression, expression};
 ghost use Rattle.vax_debug_words.specs.Commands.{meaning};
 ghost use Rattle.vax_debug_words.specs.declared.request.Request.TheVariants as request;
 ghost use Rattle.vax_debug_words.specs.declared.request.Value.TheVariants as value;
-ghost use Rattle.vax_debug_words.specs.Requests.{IsCount, IsProper, IsSpan, IsValue, alone, characters, cleared, count, count_or, deposited, disassembled, evicted, evicted_at, examined, field_of, field_put, field_shown, form_or_long, help_on, helped, memory_put, memory_shown, mode_number, one_expression, one_shown, put_at, quadword, shown, shown_at, shown_of, span, spanned, spelled, stacked, stepped, value_of, watched};
+ghost use Rattle.vax_debug_words.specs.Requests.{IsCount, IsProper, IsSpan, IsValue, alone, before_quote, characters, cleared, count, count_or, deposited, disassembled, evicted, evicted_at, examined, field_of, field_put, field_shown, form_or_long, help_on, helped, memory_put, memory_shown, mode_number, one_expression, one_shown, put_at, quadword, quadword_value, shown, shown_at, shown_of, span, spanned, spelled, stacked, stepped, unquoted, value_of, watched};
 
 use crate::command::{Form, Meaning, begins, is_called, meaning_of};
-use crate::expression::{expression, longword, register};
+use crate::expression::{expression, is_hexadecimal, longword, register};
 use crate::request::{Characters, Expression, Field, Request, Size, Span, Value};
 use vax_lines::{next_word, number};
 
@@ -181,17 +181,58 @@ fn quadword(word: &[u8]) -> Option<u64>
     Some(u64::from(high) * 0x1_0000_0000 + u64::from(low))
 }
 
-/// 1 to 64 characters.
+/// A number of eight bytes, or that it is too large.
+#[tactic(auto, unfolding(crate::specs::Requests::quadword_value))]
+fn quadword_value(word: &[u8]) -> Option<Value>
+    ensures value { result ≡ quadword_value word.now }
+    ensures proper { IfSome result IsValue }
+{
+    match quadword(word) {
+        Some(number) => Some(Value::Quadword(number)),
+        None if is_hexadecimal(word) => Some(Value::TooLarge),
+        None => None,
+    }
+}
+
+/// What stands before the quote at the end of a text.
+#[tactic(auto, unfolding(crate::specs::Requests::before_quote))]
+fn before_quote(text: &[u8]) -> Option<&[u8]>
+    ensures { option_map (λ w. w.now) result ≡ before_quote text.entry.now }
+{
+    if text.is_empty() {
+        return None;
+    }
+    let end = text.len() - 1;
+    if text[end] == b'"' {
+        Some(text.split_at(end).0)
+    } else {
+        None
+    }
+}
+
+/// What stands between quotes, where a word begins with one; then another must end it.
+#[tactic(auto, unfolding(crate::specs::Requests::unquoted))]
+fn unquoted(word: &[u8]) -> Option<&[u8]>
+    ensures { option_map (λ w. w.now) result ≡ unquoted word.entry.now }
+{
+    match word.split_first() {
+        Some((b'"', text)) => before_quote(text),
+        _ => Some(word),
+    }
+}
+
+/// 1 to 64 characters, in quotes or without.
 #[tactic(auto, unfolding(crate::specs::Requests::characters))]
 fn characters(word: &[u8]) -> Option<Characters>
     ensures value { result ≡ characters word.now }
     ensures some { IfSome result (λ cs. 1 ≤ length cs) }
     ensures few { IfSome result (λ cs. length cs ≤ 64) }
 {
-    if word.is_empty() || word.len() > 64 {
+    let text = unquoted(word)?;
+    if text.is_empty() || text.len() > 64 {
         return None;
     }
-    Some(Characters::new(word))
+    Some(Characters::new(text))
 }
 
 /// A number of so many bytes.
@@ -212,7 +253,7 @@ fn value(form: Form, word: &[u8]) -> Option<Value>
         Form::Byte => sized(Size::Byte, word),
         Form::Word => sized(Size::Word, word),
         Form::Long => sized(Size::Long, word),
-        Form::Quad => quadword(word).map(Value::Quadword),
+        Form::Quad => quadword_value(word),
         Form::Ascii => characters(word).map(Value::Text),
         Form::Instruction => None,
     }

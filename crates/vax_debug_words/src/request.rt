@@ -118,6 +118,8 @@ pub enum Value {
     Number(Size, Expression),
     /// A number of eight bytes.
     Quadword(u64),
+    /// A number that eight bytes have no room for.
+    TooLarge,
     /// Characters.
     Text(Characters),
 }

@@ -1,69 +1,92 @@
 use Rattle.std.proofs.Common.{◌≡◌, ℕ, refl}
-use Rattle.std.specs.Prelude.{Some, None}
 use Rattle.vax_machine.specs.Meaning.{engine}
 use Rattle.vax_console.specs.Ends.{scene}
-use Rattle.vax_debug_acts.proofs.Telling.{breaks_at, broken_is, breaks_same, counts_then, done, not_done, reply_counts, reply_only, tells, with_value, without_value}
-use Rattle.vax_debug.specs.Values.{evaluated}
-use Rattle.vax_debug_acts.specs.Acts.{added_line, break_act, no_value_line, only_told, broken_at}
+use Rattle.vax_debug_acts.proofs.Telling.{broken_is, counts_then, done, in_no_place, in_place, not_done, outside, placed_at, placed_outside, placed_same, reply_counts, reply_only, tells}
+use Rattle.vax_debug.specs.Places.{located}
+use Rattle.vax_debug.specs.declared.places.Place.TheVariants.{Inside, Outside, Unknown}
+use Rattle.vax_debug_acts.specs.Acts.{added_line, break_act, broken_at, no_value_line, only_told, outside_line}
 use Rattle.vax_console.proofs.Only.{only_none}
 use Rattle.vax_debug_acts.proofs.addresses.stop_at.Goals as goal
 
-pub returns-in-Ok-Some-clause-acts : goal.returns-in-Ok-Some-clause-acts
-returns-in-Ok-Some-clause-acts g c = λ o s replies here.
+pub returns-in-Ok-Inside-clause-acts : goal.returns-in-Ok-Inside-clause-acts
+returns-in-Ok-Inside-clause-acts g c = λ o s replies here.
     let limit = c.args.setting.now.limits.now.steps in
     let turns = c.args.setting.now.limits.now.turns in
     let sink = g.K.Sink.contents c.args.sink.now in
-    let here2 = c.evaluate.ensures.stays sink o s replies here in
-    let w = scene (engine c.evaluate.new.machine) (g.F.PageFile.contents c.evaluate.new.file) (g.K.Sink.contents c.add.new.sink) in
-    let is : Some c.in-Ok-Some.address ≡ evaluated c.args.setting.now.legend.now c.args.at.now s.machine = (rw c.in-Ok-Some.field-0-is at c.in-Ok-Some.ensures.tells) sink o s replies here in
-    with_value c.add.result turns c.in-Ok-Some.address (evaluated c.args.setting.now.legend.now c.args.at.now s.machine) (λ (a : ℕ). only_told s (added_line c.args.setting.now.legend.now c.args.plan.now.breaks a)) o s replies w is (done c.add.result turns 0 o s s replies (added_line c.args.setting.now.legend.now c.args.plan.now.breaks c.in-Ok-Some.address) w (tells c.add.result (g.K.Sink.faults c.args.sink.now) (g.K.Sink.faults c.add.new.sink) o s replies (added_line c.args.setting.now.legend.now c.args.plan.now.breaks c.in-Ok-Some.address) (engine c.evaluate.new.machine) (g.F.PageFile.contents c.evaluate.new.file) sink (g.K.Sink.contents c.add.new.sink) here2 c.add.ensures.replies))
+    let here2 = c.locate.ensures.stays sink o s replies here in
+    let w = scene (engine c.locate.new.machine) (g.F.PageFile.contents c.locate.new.file) (g.K.Sink.contents c.add.new.sink) in
+    let is : Inside c.in-Ok-Inside.address ≡ located c.args.setting.now.legend.now c.args.at.now s.machine = (rw c.in-Ok-Inside.field-0-is at c.in-Ok-Inside.ensures.tells) sink o s replies here in
+    in_place c.add.result turns c.in-Ok-Inside.address (located c.args.setting.now.legend.now c.args.at.now s.machine) (λ (a : ℕ). only_told s (added_line c.args.setting.now.legend.now c.args.plan.now.breaks a)) o s replies w is (done c.add.result turns 0 o s s replies (added_line c.args.setting.now.legend.now c.args.plan.now.breaks c.in-Ok-Inside.address) w (tells c.add.result (g.K.Sink.faults c.args.sink.now) (g.K.Sink.faults c.add.new.sink) o s replies (added_line c.args.setting.now.legend.now c.args.plan.now.breaks c.in-Ok-Inside.address) (engine c.locate.new.machine) (g.F.PageFile.contents c.locate.new.file) sink (g.K.Sink.contents c.add.new.sink) here2 c.add.ensures.replies))
 
-pub returns-in-Ok-None-clause-acts : goal.returns-in-Ok-None-clause-acts
-returns-in-Ok-None-clause-acts g c = λ o s replies here.
+pub returns-in-Ok-Unknown-clause-acts : goal.returns-in-Ok-Unknown-clause-acts
+returns-in-Ok-Unknown-clause-acts g c = λ o s replies here.
     let limit = c.args.setting.now.limits.now.steps in
     let turns = c.args.setting.now.limits.now.turns in
     let sink = g.K.Sink.contents c.args.sink.now in
-    let here2 = c.evaluate.ensures.stays sink o s replies here in
-    let w = scene (engine c.evaluate.new.machine) (g.F.PageFile.contents c.evaluate.new.file) (g.K.Sink.contents c.tell_no_value.new.sink) in
-    let is : None ≡ evaluated c.args.setting.now.legend.now c.args.at.now s.machine = (rw c.in-Ok-None.field-0-is at c.in-Ok-None.ensures.tells) sink o s replies here in
-    without_value c.tell_no_value.result turns (evaluated c.args.setting.now.legend.now c.args.at.now s.machine) (λ (a : ℕ). only_told s (added_line c.args.setting.now.legend.now c.args.plan.now.breaks a)) o s replies w is
-    (tells c.tell_no_value.result (g.K.Sink.faults c.args.sink.now) (g.K.Sink.faults c.tell_no_value.new.sink) o s replies no_value_line (engine c.evaluate.new.machine) (g.F.PageFile.contents c.evaluate.new.file) sink (g.K.Sink.contents c.tell_no_value.new.sink) here2 c.tell_no_value.ensures)
+    let here2 = c.locate.ensures.stays sink o s replies here in
+    let w = scene (engine c.locate.new.machine) (g.F.PageFile.contents c.locate.new.file) (g.K.Sink.contents c.tell_no_value.new.sink) in
+    let is : Unknown ≡ located c.args.setting.now.legend.now c.args.at.now s.machine = (rw c.in-Ok-Unknown.field-0-is at c.in-Ok-Unknown.ensures.tells) sink o s replies here in
+    in_no_place c.tell_no_value.result turns (located c.args.setting.now.legend.now c.args.at.now s.machine) (λ (a : ℕ). only_told s (added_line c.args.setting.now.legend.now c.args.plan.now.breaks a)) o s replies w is
+    (tells c.tell_no_value.result (g.K.Sink.faults c.args.sink.now) (g.K.Sink.faults c.tell_no_value.new.sink) o s replies no_value_line (engine c.locate.new.machine) (g.F.PageFile.contents c.locate.new.file) sink (g.K.Sink.contents c.tell_no_value.new.sink) here2 c.tell_no_value.ensures)
+
+pub returns-in-Ok-Outside-clause-acts : goal.returns-in-Ok-Outside-clause-acts
+returns-in-Ok-Outside-clause-acts g c = λ o s replies here.
+    let limit = c.args.setting.now.limits.now.steps in
+    let turns = c.args.setting.now.limits.now.turns in
+    let sink = g.K.Sink.contents c.args.sink.now in
+    let here2 = c.locate.ensures.stays sink o s replies here in
+    let w = scene (engine c.locate.new.machine) (g.F.PageFile.contents c.locate.new.file) (g.K.Sink.contents c.tell_outside.new.sink) in
+    let is : Outside ≡ located c.args.setting.now.legend.now c.args.at.now s.machine = (rw c.in-Ok-Outside.field-0-is at c.in-Ok-Outside.ensures.tells) sink o s replies here in
+    outside c.tell_outside.result turns (located c.args.setting.now.legend.now c.args.at.now s.machine) (λ (a : ℕ). only_told s (added_line c.args.setting.now.legend.now c.args.plan.now.breaks a)) o s replies w is
+    (tells c.tell_outside.result (g.K.Sink.faults c.args.sink.now) (g.K.Sink.faults c.tell_outside.new.sink) o s replies outside_line (engine c.locate.new.machine) (g.F.PageFile.contents c.locate.new.file) sink (g.K.Sink.contents c.tell_outside.new.sink) here2 c.tell_outside.ensures)
 
 pub returns-in-Err-clause-acts : goal.returns-in-Err-clause-acts
 returns-in-Err-clause-acts g c = λ o s replies here.
     let limit = c.args.setting.now.limits.now.steps in
     let turns = c.args.setting.now.limits.now.turns in
     let sink = g.K.Sink.contents c.args.sink.now in
-    let here2 = c.evaluate.ensures.stays sink o s replies here in
-    not_done turns (break_act c.args.setting.now.legend.now c.args.plan.now c.args.at.now s) o s replies (scene (engine c.evaluate.new.machine) (g.F.PageFile.contents c.evaluate.new.file) (g.K.Sink.contents c.args.sink.now)) here2
+    let here2 = c.locate.ensures.stays sink o s replies here in
+    not_done turns (break_act c.args.setting.now.legend.now c.args.plan.now c.args.at.now s) o s replies (scene (engine c.locate.new.machine) (g.F.PageFile.contents c.locate.new.file) (g.K.Sink.contents c.args.sink.now)) here2
 
-pub returns-in-Ok-Some-clause-counts : goal.returns-in-Ok-Some-clause-counts
-returns-in-Ok-Some-clause-counts g c = counts_then c.add.result (g.F.PageFile.faults c.args.file.now) (g.F.PageFile.faults c.evaluate.new.file) (g.F.PageFile.faults c.evaluate.new.file) (g.K.Sink.faults c.args.sink.now) (g.K.Sink.faults c.args.sink.now) (g.K.Sink.faults c.add.new.sink) c.in-Ok-Some.ensures.counts.quiet refl (reply_counts c.add.result (g.F.PageFile.faults c.evaluate.new.file) (g.K.Sink.faults c.args.sink.now) (g.K.Sink.faults c.add.new.sink) (g.K.Sink.contents c.args.sink.now) (g.K.Sink.contents c.add.new.sink) (added_line c.args.setting.now.legend.now c.args.plan.now.breaks c.in-Ok-Some.address) c.add.ensures.replies)
+pub returns-in-Ok-Inside-clause-counts : goal.returns-in-Ok-Inside-clause-counts
+returns-in-Ok-Inside-clause-counts g c = counts_then c.add.result (g.F.PageFile.faults c.args.file.now) (g.F.PageFile.faults c.locate.new.file) (g.F.PageFile.faults c.locate.new.file) (g.K.Sink.faults c.args.sink.now) (g.K.Sink.faults c.args.sink.now) (g.K.Sink.faults c.add.new.sink) c.in-Ok-Inside.ensures.counts.quiet refl (reply_counts c.add.result (g.F.PageFile.faults c.locate.new.file) (g.K.Sink.faults c.args.sink.now) (g.K.Sink.faults c.add.new.sink) (g.K.Sink.contents c.args.sink.now) (g.K.Sink.contents c.add.new.sink) (added_line c.args.setting.now.legend.now c.args.plan.now.breaks c.in-Ok-Inside.address) c.add.ensures.replies)
 
-pub returns-in-Ok-None-clause-counts : goal.returns-in-Ok-None-clause-counts
-returns-in-Ok-None-clause-counts g c = counts_then c.tell_no_value.result (g.F.PageFile.faults c.args.file.now) (g.F.PageFile.faults c.evaluate.new.file) (g.F.PageFile.faults c.evaluate.new.file) (g.K.Sink.faults c.args.sink.now) (g.K.Sink.faults c.args.sink.now) (g.K.Sink.faults c.tell_no_value.new.sink) c.in-Ok-None.ensures.counts.quiet refl (reply_counts c.tell_no_value.result (g.F.PageFile.faults c.evaluate.new.file) (g.K.Sink.faults c.args.sink.now) (g.K.Sink.faults c.tell_no_value.new.sink) (g.K.Sink.contents c.args.sink.now) (g.K.Sink.contents c.tell_no_value.new.sink) no_value_line c.tell_no_value.ensures)
+pub returns-in-Ok-Unknown-clause-counts : goal.returns-in-Ok-Unknown-clause-counts
+returns-in-Ok-Unknown-clause-counts g c = counts_then c.tell_no_value.result (g.F.PageFile.faults c.args.file.now) (g.F.PageFile.faults c.locate.new.file) (g.F.PageFile.faults c.locate.new.file) (g.K.Sink.faults c.args.sink.now) (g.K.Sink.faults c.args.sink.now) (g.K.Sink.faults c.tell_no_value.new.sink) c.in-Ok-Unknown.ensures.counts.quiet refl (reply_counts c.tell_no_value.result (g.F.PageFile.faults c.locate.new.file) (g.K.Sink.faults c.args.sink.now) (g.K.Sink.faults c.tell_no_value.new.sink) (g.K.Sink.contents c.args.sink.now) (g.K.Sink.contents c.tell_no_value.new.sink) no_value_line c.tell_no_value.ensures)
+
+pub returns-in-Ok-Outside-clause-counts : goal.returns-in-Ok-Outside-clause-counts
+returns-in-Ok-Outside-clause-counts g c = counts_then c.tell_outside.result (g.F.PageFile.faults c.args.file.now) (g.F.PageFile.faults c.locate.new.file) (g.F.PageFile.faults c.locate.new.file) (g.K.Sink.faults c.args.sink.now) (g.K.Sink.faults c.args.sink.now) (g.K.Sink.faults c.tell_outside.new.sink) c.in-Ok-Outside.ensures.counts.quiet refl (reply_counts c.tell_outside.result (g.F.PageFile.faults c.locate.new.file) (g.K.Sink.faults c.args.sink.now) (g.K.Sink.faults c.tell_outside.new.sink) (g.K.Sink.contents c.args.sink.now) (g.K.Sink.contents c.tell_outside.new.sink) outside_line c.tell_outside.ensures)
 
 pub returns-in-Err-clause-counts : goal.returns-in-Err-clause-counts
 returns-in-Err-clause-counts g c = (c.in-Err.ensures.counts.later, c.in-Err.ensures.counts.cause, refl)
 
-pub returns-in-Ok-Some-clause-breaks : goal.returns-in-Ok-Some-clause-breaks
-returns-in-Ok-Some-clause-breaks g c = λ o s replies here.
+pub returns-in-Ok-Inside-clause-breaks : goal.returns-in-Ok-Inside-clause-breaks
+returns-in-Ok-Inside-clause-breaks g c = λ o s replies here.
     let sink = g.K.Sink.contents c.args.sink.now in
-    let is : Some c.in-Ok-Some.address ≡ evaluated c.args.setting.now.legend.now c.args.at.now s.machine = (rw c.in-Ok-Some.field-0-is at c.in-Ok-Some.ensures.tells) sink o s replies here in
-    breaks_at c.add.result c.in-Ok-Some.address (evaluated c.args.setting.now.legend.now c.args.at.now s.machine) c.args.plan.now (record c.args.plan.now { breaks = c.add.new.breaks }) (broken_at c.args.plan.now) is
-    (broken_is c.args.plan.now c.add.new.breaks c.in-Ok-Some.address c.add.ensures.breaks)
+    let is : Inside c.in-Ok-Inside.address ≡ located c.args.setting.now.legend.now c.args.at.now s.machine = (rw c.in-Ok-Inside.field-0-is at c.in-Ok-Inside.ensures.tells) sink o s replies here in
+    placed_at c.add.result c.in-Ok-Inside.address (located c.args.setting.now.legend.now c.args.at.now s.machine) c.args.plan.now (record c.args.plan.now { breaks = c.add.new.breaks }) (broken_at c.args.plan.now) is
+    (broken_is c.args.plan.now c.add.new.breaks c.in-Ok-Inside.address c.add.ensures.breaks)
 
-pub returns-in-Ok-None-clause-breaks : goal.returns-in-Ok-None-clause-breaks
-returns-in-Ok-None-clause-breaks g c = λ o s replies here.
+pub returns-in-Ok-Unknown-clause-breaks : goal.returns-in-Ok-Unknown-clause-breaks
+returns-in-Ok-Unknown-clause-breaks g c = λ o s replies here.
     let sink = g.K.Sink.contents c.args.sink.now in
-    let is : None ≡ evaluated c.args.setting.now.legend.now c.args.at.now s.machine = (rw c.in-Ok-None.field-0-is at c.in-Ok-None.ensures.tells) sink o s replies here in
-    breaks_same c.tell_no_value.result (evaluated c.args.setting.now.legend.now c.args.at.now s.machine) c.args.plan.now (broken_at c.args.plan.now) is
+    let is : Unknown ≡ located c.args.setting.now.legend.now c.args.at.now s.machine = (rw c.in-Ok-Unknown.field-0-is at c.in-Ok-Unknown.ensures.tells) sink o s replies here in
+    placed_same c.tell_no_value.result (located c.args.setting.now.legend.now c.args.at.now s.machine) c.args.plan.now (broken_at c.args.plan.now) is
 
-pub returns-in-Ok-Some-clause-only : goal.returns-in-Ok-Some-clause-only
-returns-in-Ok-Some-clause-only g c = reply_only _ _ _ _ _ _ c.add.ensures.replies
+pub returns-in-Ok-Outside-clause-breaks : goal.returns-in-Ok-Outside-clause-breaks
+returns-in-Ok-Outside-clause-breaks g c = λ o s replies here.
+    let sink = g.K.Sink.contents c.args.sink.now in
+    let is : Outside ≡ located c.args.setting.now.legend.now c.args.at.now s.machine = (rw c.in-Ok-Outside.field-0-is at c.in-Ok-Outside.ensures.tells) sink o s replies here in
+    placed_outside c.tell_outside.result (located c.args.setting.now.legend.now c.args.at.now s.machine) c.args.plan.now (broken_at c.args.plan.now) is
 
-pub returns-in-Ok-None-clause-only : goal.returns-in-Ok-None-clause-only
-returns-in-Ok-None-clause-only g c = reply_only _ _ _ _ _ _ c.tell_no_value.ensures
+pub returns-in-Ok-Inside-clause-only : goal.returns-in-Ok-Inside-clause-only
+returns-in-Ok-Inside-clause-only g c = reply_only _ _ _ _ _ _ c.add.ensures.replies
+
+pub returns-in-Ok-Unknown-clause-only : goal.returns-in-Ok-Unknown-clause-only
+returns-in-Ok-Unknown-clause-only g c = reply_only _ _ _ _ _ _ c.tell_no_value.ensures
+
+pub returns-in-Ok-Outside-clause-only : goal.returns-in-Ok-Outside-clause-only
+returns-in-Ok-Outside-clause-only g c = reply_only _ _ _ _ _ _ c.tell_outside.ensures
 
 pub returns-in-Err-clause-only : goal.returns-in-Err-clause-only
 returns-in-Err-clause-only g c = only_none _
