@@ -10,7 +10,7 @@ ghost use Rattle.vax_asm.specs.View.{assembly_of};
 ghost use Rattle.vax_lex.specs.Tokens.{IsTokenOf, pieces_of};
 ghost use Rattle.vax_asm_labels.specs.View.{Leaves};
 ghost use Rattle.vax_asm_first.specs.Fixups.{Assignment as Waiting};
-ghost use Rattle.vax_asm_first.specs.View.{standing_of, Stands, States};
+ghost use Rattle.vax_asm_first.specs.View.{standing_of, Stands, States, KeepsMark};
 ghost use Rattle.vax_asm_statement.specs.Reading.{body_seen, parsed, statement_seen};
 
 use crate::tokens::{are_tokens, directive, has_bad, has_wide, instruction, tokens_of};
@@ -50,8 +50,9 @@ fn direct(
 ) -> Result<(), Refused>
     requires tokens { All (IsTokenOf line.now.value.items) operands.now }
     requires few { length operands.now < 2 ^ 32 }
-    ensures { States (directed directive origin line.now.value.items operands.now)
+    ensures stands { States (directed directive origin line.now.value.items operands.now)
         result standing.old standing.new }
+    ensures mark { KeepsMark standing.old standing.new }
 {
     match directive {
         Directive::Section => section(standing, alloc, line, operands),
@@ -110,9 +111,10 @@ fn instruct(
 ) -> Result<(), Refused>
     requires tokens { All (IsTokenOf line.now.value.items) operands.now }
     requires few { length operands.now < 2 ^ 32 }
-    ensures { States
+    ensures stands { States
         (instructed (instruction_named name.now) origin line.now.value.items operands.now)
         result standing.old standing.new }
+    ensures mark { KeepsMark standing.old standing.new }
 {
     match instruction(name) {
         Some(row) => vax_asm_instruction::instruction(
@@ -133,8 +135,9 @@ fn operate(
 ) -> Result<(), Refused>
     requires tokens { All (IsTokenOf line.now.value.items) operands.now }
     requires few { length operands.now < 2 ^ 32 }
-    ensures { States (operation_stated origin line.now.value.items name.now operands.now)
+    ensures stands { States (operation_stated origin line.now.value.items name.now operands.now)
         result standing.old standing.new }
+    ensures mark { KeepsMark standing.old standing.new }
 {
     match directive(standing.dialect, name) {
         Some(found) => direct(standing, alloc, origin, line, found, operands),
@@ -159,6 +162,7 @@ fn state_body(
         result standing.old standing.new }
     ensures waits { Leaves (body_stated origin line.now.value.items (body_seen body.entry)
         (standing_of standing.old)).waiting result assignments.old assignments.new }
+    ensures mark { KeepsMark standing.old standing.new }
 {
     match body {
         Body::Nothing => Ok(()),
@@ -194,9 +198,10 @@ fn state_rest(
 ) -> Result<Placed, NoMemory>
     requires within { WhatWithin line.now.value.items (body_seen body) }
     requires sound { IsSoundWhat (2 ^ 32 - 1) (body_seen body) }
-    ensures { Places
+    ensures placed { Places
         (λ s. alone (body_stated origin line.now.value.items (body_seen body.entry) s)) result
         (assembly_of standing.old assignments.old) (assembly_of standing.new assignments.new) }
+    ensures mark { KeepsMark standing.old standing.new }
 {
     match state_body(standing, assignments, alloc, origin, line, body) {
         Ok(()) => Ok(Placed::Stands),
@@ -217,9 +222,10 @@ fn state_beside(
 ) -> Result<Placed, NoMemory>
     requires within { WhatWithin line.now.value.items (body_seen body) }
     requires sound { IsSoundWhat (2 ^ 32 - 1) (body_seen body) }
-    ensures { Places (λ s. beside kind (body_seen body.entry)
+    ensures placed { Places (λ s. beside kind (body_seen body.entry)
         (body_stated origin line.now.value.items (body_seen body.entry) s)) result
         (assembly_of standing.old assignments.old) (assembly_of standing.new assignments.new) }
+    ensures mark { KeepsMark standing.old standing.new }
 {
     if let Body::Nothing = body {
         return Ok(Placed::FaultyLabel(kind));
@@ -243,8 +249,10 @@ fn state(
 ) -> Result<Placed, NoMemory>
     requires within { Within line.now.value.items (statement_seen statement) }
     requires sound { IsSound (2 ^ 32 - 1) (statement_seen statement) }
-    ensures { Places (stated origin line.now.value.items (statement_seen statement.entry)) result
+    ensures placed { Places
+        (stated origin line.now.value.items (statement_seen statement.entry)) result
         (assembly_of standing.old assignments.old) (assembly_of standing.new assignments.new) }
+    ensures mark { KeepsMark standing.old standing.new }
 {
     let Some(found) = statement.label else {
         return state_rest(standing, assignments, alloc, origin, line, statement.body);
@@ -305,9 +313,10 @@ fn carry_out(
 ) -> Result<Placed, NoMemory>
     requires within { Within line.now.value.items (statement_seen statement) }
     requires sound { IsSound (2 ^ 32 - 1) (statement_seen statement) }
-    ensures { Places
+    ensures placed { Places
         (placed_as origin line.now.value.items found.now (statement_seen statement.entry)) result
         (assembly_of standing.old assignments.old) (assembly_of standing.new assignments.new) }
+    ensures mark { KeepsMark standing.old standing.new }
 {
     if are_tokens(found) {
         return state(standing, assignments, alloc, origin, line, statement);
@@ -380,8 +389,9 @@ pub fn place(
     origin: Origin,
     said: Line,
 ) -> Result<Placed, NoMemory>
-    ensures { Places (placed origin said.text.items) result
+    ensures placed { Places (placed origin said.text.items) result
         (assembly_of standing.old assignments.old) (assembly_of standing.new assignments.new) }
+    ensures mark { KeepsMark standing.old standing.new }
 {
     let said = line_in(alloc, standing.dialect, said)?;
     let tokens = read(alloc, &said)?;

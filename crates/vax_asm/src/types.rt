@@ -2,7 +2,7 @@
 
 ghost use Rattle.std.specs.Prelude.{◌<◌, ◌^◌, All, length};
 ghost use Rattle.vax_asm.specs.Placing.{type_of_operand, type_stated};
-ghost use Rattle.vax_asm_first.specs.View.{States};
+ghost use Rattle.vax_asm_first.specs.View.{States, KeepsMark};
 ghost use Rattle.vax_lex.specs.Tokens.{IsTokenOf};
 
 use std::alloc::Global;
@@ -26,8 +26,9 @@ fn assign_type(
 ) -> Result<(), Refused>
     requires name { All (IsTokenOf line.now.value.items) name.now }
     requires operand { All (IsTokenOf line.now.value.items) operand.now }
-    ensures { States (type_of_operand origin line.now.value.items name.now operand.now)
+    ensures stands { States (type_of_operand origin line.now.value.items name.now operand.now)
         result standing.old standing.new }
+    ensures mark { KeepsMark standing.old standing.new }
 {
     if operand.is_empty() {
         return assign_number(standing, alloc, origin, line, name, 0);
@@ -49,8 +50,9 @@ pub(crate) fn operand_type(
 ) -> Result<(), Refused>
     requires tokens { All (IsTokenOf line.now.value.items) operands.now }
     requires few { length operands.now < 2 ^ 32 }
-    ensures { States (type_stated origin line.now.value.items operands.now)
+    ensures stands { States (type_stated origin line.now.value.items operands.now)
         result standing.old standing.new }
+    ensures mark { KeepsMark standing.old standing.new }
 {
     let Ok(found) = parts(alloc, operands) else {
         return Err(Refused::NoMemory);

@@ -1,4 +1,5 @@
 pub mod Ascending
+pub mod Back
 pub mod Beginning
 pub mod Going
 pub mod Ranking

@@ -1,6 +1,7 @@
 -- Statements carried out once more.
-use Rattle.std.proofs.Common.{◌≡◌, ◌<◌, ◌≤◌, ◌+◌, ℕ, suc, add-one, List, [], ◌∷◌, ◌++◌, length, map, drop, refl, sym, ap, ◌∙◌, drop-cons}
+use Rattle.std.proofs.Common.{◌≡◌, ◌<◌, ◌≤◌, ◌+◌, ℕ, suc, add-one, List, [], ◌∷◌, ◌++◌, length, map, take, drop, Option, Some, None, refl, sym, ap, ◌∙◌, drop-cons}
 use Rattle.std.proofs.lemmas.List.{drop_all, map-append}
+use Rattle.std.proofs.Math.Seq.{take-append_seam, take-length}
 use Rattle.std.specs.Global.{Vec}
 use Rattle.std.specs.Prelude.{slice_index_or}
 use Rattle.vax_asm.specs.Placing.{FaultyLabel, Faulty, Placed, Stands, waiting_in}
@@ -74,3 +75,8 @@ same_kept dialect list old new before after kept left same indexed = record {
   steps = same ∙ kept.steps ∙ ap (λ (a : Assembly). steps_by a.assignments) (sym left);
   indexed = indexed;
 }
+
+-- the assignments before one more
+pub first_waiting : (o : Option Assignment) (xs : List Assignment) (n : ℕ) → n ≡ length xs → take n (with_waiting o xs) ≡ xs
+first_waiting (Some a) xs n e = ap (λ (k : ℕ). take k (xs ++ a ∷ [])) e ∙ take-append_seam xs (a ∷ [])
+first_waiting None xs n e = ap (λ (k : ℕ). take k xs) e ∙ take-length xs

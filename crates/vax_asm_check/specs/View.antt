@@ -1,6 +1,6 @@
 -- What the code's types mean.
 use Rattle.std.specs.Global.{Vec}
-use Rattle.std.specs.Prelude.{◌≡◌, ℕ, Bool, if◌then◌else◌, List, ◌∷◌, ◌++◌, length, map, Option}
+use Rattle.std.specs.Prelude.{◌≡◌, ℕ, Bool, if◌then◌else◌, List, ◌∷◌, ◌++◌, length, map, take, Option, Some}
 use Rattle.vax_asm.specs.View.{assembly_of}
 use Rattle.vax_asm.specs.Walk.{Assembly, nothing}
 use Rattle.vax_asm_check.specs.Faultless.{Following, said_at, stated as stated_faultless}
@@ -16,7 +16,10 @@ use Rattle.vax_asm_circles.specs.declared.growing.Steps.{Steps}
 use Rattle.vax_asm_faults.specs.Survey.{Onward, circle_faults, stated, with_faults}
 use Rattle.vax_asm_first.specs.Circles.{steps_by}
 use Rattle.vax_asm_first.specs.Fixups.{Assignment}
+use Rattle.vax_asm_first.specs.Standing as standing
+use Rattle.vax_asm_first.specs.View.{marked_standing}
 use Rattle.vax_asm_first.specs.declared.types.Origin.{Origin}
+use Rattle.vax_asm_first.specs.declared.types.Standing.{Standing}
 use Rattle.vax_asm_labels.specs.Naming.{with_waiting}
 use Rattle.vax_asm_second.specs.declared.types.Fault.{Fault}
 use Rattle.vax_dialect.specs.declared.Dialect.{Dialect}
@@ -26,6 +29,14 @@ left_of l = assembly_of l.standing l.assignments
 
 abbrev pub said_of : Stated → Said
 said_of s = record { origin = s.origin; text = s.line.text.items }
+
+-- what stood at the mark, where there still is one, is this
+abbrev pub IsMark : Standing → standing.Standing → Type 0
+IsMark s before = (m : standing.Standing) → marked_standing s ≡ Some m → m ≡ before
+
+-- the mark, with so many of the assignments, is this
+abbrev pub IsMarkOf : Left → (many : ℕ) → Assembly → Type 0
+IsMarkOf l many before = IsMark l.standing before.standing × (take many (left_of l).assignments ≡ before.assignments)
 
 -- What stands is what the statements that stand leave, in the dialect of the source. The steps are those of the assignments.
 pub record AreKept (dialect : Dialect) (list : Vec Stated) (left : Left) (all : Steps) : Type 0 where

@@ -2,9 +2,10 @@
 
 ghost use Rattle.std.specs.Prelude.{◌≡◌, IfOk, OnOk, map};
 ghost use Rattle.vax_asm.specs.Placing.{placed};
+ghost use Rattle.vax_asm.specs.PlacingView.{Places};
 ghost use Rattle.vax_asm.specs.Walk.{nothing};
 ghost use Rattle.vax_asm_check.specs.Restating.{restated};
-ghost use Rattle.vax_asm_check.specs.View.{left_of, said_of};
+ghost use Rattle.vax_asm_check.specs.View.{left_of, said_of, IsMark, IsMarkOf};
 ghost use Rattle.vax_asm_faults.specs.Survey.{left_by};
 
 use std::alloc::Global;
@@ -52,6 +53,48 @@ impl Left {
             standing,
             assignments: Vec::new(alloc),
         })
+    }
+
+    /// Carries out a statement. There is a mark before it, unless what it has done can't be undone.
+    pub(crate) fn place(
+        &mut self,
+        alloc: Global,
+        origin: Origin,
+        said: Line,
+    ) -> Result<Placed, NoMemory>
+        ensures placed { Places
+            (placed origin said.text.items) result (left_of self.old) (left_of self.new) }
+        ensures mark { IsMark self.new.standing (left_of self.old).standing }
+    {
+        self.standing.mark();
+        place(
+            &mut self.standing,
+            &mut self.assignments,
+            alloc,
+            origin,
+            said,
+        )
+    }
+
+    /// Makes all what it was at the mark, where there were so many assignments, which these statements leave that stand. Where there is
+    /// no mark any more, they are carried out once more.
+    pub(crate) fn go_back(
+        &mut self,
+        alloc: Global,
+        dialect: Dialect,
+        stood: &[Stated],
+        many: usize,
+    ) -> Result<(), NoMemory>
+        requires { IsMarkOf self.old many (restated (map said_of stood.now) (nothing dialect)) }
+        ensures { OnOk result
+            (left_of self.new ≡ restated (map said_of stood.now) (nothing dialect)) }
+    {
+        if self.standing.go_back(alloc) {
+            self.assignments.truncate(many);
+            return Ok(());
+        }
+        *self = restated(alloc, dialect, stood)?;
+        Ok(())
     }
 
     /// Carries out a statement once more.

@@ -14,10 +14,10 @@ ghost use Rattle.vax_macro.specs.Expansion.{AtEnd, Faulty, Opened};
 ghost use Rattle.vax_macro.specs.View.{opening_of};
 
 use crate::circles::{circle_beside, circle_fault};
-use crate::left::{Left, Stated, copied, restated};
+use crate::left::{Left, Stated, copied};
 use crate::sorting::sort;
 use std::alloc::Global;
-use vax_asm::{FaultKind, Placed, place, refusal};
+use vax_asm::{FaultKind, Placed, refusal};
 use vax_asm_circles::Steps;
 use vax_asm_first::Origin;
 use vax_asm_second::{Fault, all_faults};
@@ -107,8 +107,8 @@ impl Survey {
         })
     }
 
-    /// Carries out a statement of a line that goes on. Behind a fault stands what stood before, made once more from the
-    /// statements that stand.
+    /// Carries out a statement of a line that goes on. After a fault all is as before: what the statement has done is undone, or where
+    /// that can't be, the statements that stand are carried out once more.
     fn carry_out(&mut self, alloc: Global, origin: Origin, said: Line) -> Result<(), NoMemory>
         requires kept { IsKept self.old }
         requires goes { is_ended self.old.ended origin.place ≡ false }
@@ -117,13 +117,7 @@ impl Survey {
     {
         let line = copied(alloc, &said)?;
         let before = self.left.assignments.len();
-        let placed = place(
-            &mut self.left.standing,
-            &mut self.left.assignments,
-            alloc,
-            origin,
-            said,
-        )?;
+        let placed = self.left.place(alloc, origin, said)?;
         match placed {
             Placed::Stands => {
                 let circle = circle_fault(alloc, &mut self.steps, &self.left.assignments, before)?;
@@ -141,7 +135,7 @@ impl Survey {
                 let circle = circle_beside(alloc, &mut self.steps, &self.left.assignments, before)?;
                 add(&mut self.faults, Some(Fault { origin, kind }))?;
                 add(&mut self.faults, circle)?;
-                self.left = restated(alloc, self.dialect, &self.stood)?;
+                self.left.go_back(alloc, self.dialect, &self.stood, before)?;
                 self.ended = Some(origin.place);
                 Ok(())
             }

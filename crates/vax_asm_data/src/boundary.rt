@@ -6,7 +6,7 @@ ghost use Rattle.vax_dialect.specs.Differences.{has_further_directives};
 ghost use Rattle.vax_lex.specs.Tokens.{IsTokenOf};
 ghost use Rattle.vax_asm_sections.specs.Layout.{gap};
 ghost use Rattle.vax_asm_sections.specs.View.{part_of};
-ghost use Rattle.vax_asm_first.specs.View.{counted_of, part_seen, site_seen, standing_of, Stands, ChangesScope, States};
+ghost use Rattle.vax_asm_first.specs.View.{counted_of, part_seen, site_seen, standing_of, Stands, ChangesScope, States, KeepsMark};
 ghost use Rattle.vax_asm_scope.specs.Kept.{scope_of};
 
 use std::alloc::Global;
@@ -27,8 +27,9 @@ const MOST_BYTES: u64 = 16_777_216;
 /// Room for so many items of this kind.
 #[tactic(auto, using(crate::proofs::Limits::room_too_large, crate::proofs::Limits::bytes_fit))]
 fn make_room(standing: &mut Standing, kind: DataKind, count: u64) -> Result<(), Refused>
-    ensures { Stands result
+    ensures stands { Stands result
         (standing_of standing.new) (room kind (standing_of standing.old) (Ok count)) }
+    ensures mark { KeepsMark standing.old standing.new }
 {
     if count > MOST_BYTES {
         return Err(Refused::Fault(FaultKind::Large));
@@ -53,8 +54,9 @@ pub fn space(
 ) -> Result<(), Refused>
     requires tokens { All (IsTokenOf line.now.value.items) operands.now }
     requires few { length operands.now < 2 ^ 32 }
-    ensures { States (space_stated kind origin line.now.value.items operands.now)
+    ensures stands { States (space_stated kind origin line.now.value.items operands.now)
         result standing.old standing.new }
+    ensures mark { KeepsMark standing.old standing.new }
 {
     let Ok(found) = parts(alloc, operands) else {
         return Err(Refused::NoMemory);
@@ -137,6 +139,7 @@ fn boundary(
         (boundary_named site.entry.line.now.value.items tokens.now) (scope_of standing.old.scope)) }
     ensures few { IfOk result (λ n. IfOk n (λ k. k ≤ 9)) }
     ensures same { OnOk result (ChangesScope standing.old standing.new) }
+    ensures mark { KeepsMark standing.old standing.new }
 {
     if let Some(power) = boundary_named(site.line, tokens) {
         return Ok(Ok(power));
@@ -154,8 +157,9 @@ fn align_to(
     operand: &[Token],
 ) -> Result<(), Refused>
     requires { All (IsTokenOf site.line.now.value.items) operand.now }
-    ensures { States (align_by (site_seen site.entry) operand.now)
+    ensures stands { States (align_by (site_seen site.entry) operand.now)
         result standing.old standing.new }
+    ensures mark { KeepsMark standing.old standing.new }
 {
     match boundary(standing, alloc, site, operand) {
         Ok(Ok(power)) => standing.align(power),
@@ -205,7 +209,8 @@ fn gap(size: u32, power: u8) -> u32
 /// This byte up to a multiple of a power of two, to which the section is aligned at least.
 fn fill_to(standing: &mut Standing, alloc: Global, byte: u8, power: u8) -> Result<(), Refused>
     requires { power ≤ 9 }
-    ensures { States (filled_to byte power) result standing.old standing.new }
+    ensures stands { States (filled_to byte power) result standing.old standing.new }
+    ensures mark { KeepsMark standing.old standing.new }
 {
     let more = gap(standing.place(), power);
     let Ok(piece) = filling_with(alloc, byte, more) else {
@@ -225,8 +230,9 @@ fn fill(
 ) -> Result<(), Refused>
     requires boundary { All (IsTokenOf site.line.now.value.items) operand.now }
     requires byte { All (IsTokenOf site.line.now.value.items) byte.now }
-    ensures { States (λ s. fill_where (has_further_directives s.dialect)
+    ensures stands { States (λ s. fill_where (has_further_directives s.dialect)
         (site_seen site.entry) operand.now byte.now s) result standing.old standing.new }
+    ensures mark { KeepsMark standing.old standing.new }
 {
     if !standing.dialect.has_further_directives() {
         return Err(Refused::Fault(FaultKind::Count));
@@ -260,8 +266,9 @@ pub fn align(
 ) -> Result<(), Refused>
     requires tokens { All (IsTokenOf line.now.value.items) operands.now }
     requires few { length operands.now < 2 ^ 32 }
-    ensures { States (align_stated origin line.now.value.items operands.now)
+    ensures stands { States (align_stated origin line.now.value.items operands.now)
         result standing.old standing.new }
+    ensures mark { KeepsMark standing.old standing.new }
 {
     let Ok(found) = parts(alloc, operands) else {
         return Err(Refused::NoMemory);
@@ -281,7 +288,8 @@ pub fn align(
 /// [`Refused`] as for [`align`].
 #[tactic(auto, unfolding(crate::specs::Data::even_stated))]
 pub fn even(standing: &mut Standing, operands: &[Token]) -> Result<(), Refused>
-    ensures { States (even_stated operands.now) result standing.old standing.new }
+    ensures stands { States (even_stated operands.now) result standing.old standing.new }
+    ensures mark { KeepsMark standing.old standing.new }
 {
     if !operands.is_empty() {
         return Err(Refused::Fault(FaultKind::Count));
@@ -295,7 +303,8 @@ pub fn even(standing: &mut Standing, operands: &[Token]) -> Result<(), Refused>
 /// [`Refused::NoMemory`] where memory is refused. Nothing of use is left then.
 #[tactic(auto, unfolding(crate::specs::Data::odd_stated))]
 pub fn odd(standing: &mut Standing, operands: &[Token]) -> Result<(), Refused>
-    ensures { States (odd_stated operands.now) result standing.old standing.new }
+    ensures stands { States (odd_stated operands.now) result standing.old standing.new }
+    ensures mark { KeepsMark standing.old standing.new }
 {
     if !operands.is_empty() {
         return Err(Refused::Fault(FaultKind::Count));
@@ -310,7 +319,8 @@ pub fn odd(standing: &mut Standing, operands: &[Token]) -> Result<(), Refused>
 /// long. [`Refused::NoMemory`] where memory is refused. Nothing of use is left then.
 #[tactic(auto, using(crate::proofs::Limits::too_far))]
 fn forward(standing: &mut Standing, to: u64) -> Result<(), Refused>
-    ensures { States (forward to) result standing.old standing.new }
+    ensures stands { States (forward to) result standing.old standing.new }
+    ensures mark { KeepsMark standing.old standing.new }
 {
     let place = u64::from(standing.place());
     if to < place {
@@ -330,7 +340,8 @@ fn forward(standing: &mut Standing, to: u64) -> Result<(), Refused>
 /// be too long. [`Refused::NoMemory`] where memory is refused. Nothing of use is left then.
 #[tactic(auto, unfolding(crate::specs::Data::moved))]
 pub fn move_to(standing: &mut Standing, to: u64) -> Result<(), Refused>
-    ensures { States (moved to) result standing.old standing.new }
+    ensures stands { States (moved to) result standing.old standing.new }
+    ensures mark { KeepsMark standing.old standing.new }
 {
     let place = u64::from(standing.place());
     if standing.in_absolute() && to < place {

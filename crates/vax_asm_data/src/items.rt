@@ -4,7 +4,7 @@ ghost use Rattle.std.specs.Prelude.{◌≡◌, ◌<◌, ◌^◌, ℕ, List, All,
 ghost use Rattle.vax_asm_data.specs.Data.{expression_stated, fixed, is_nothing, item_as, item_stated, zero_stated, items_stated, data_stated, addresses_stated, too_many};
 ghost use Rattle.vax_lex.specs.Tokens.{IsTokenOf};
 ghost use Rattle.vax_asm_first.specs.Progress.{begun, site_of};
-ghost use Rattle.vax_asm_first.specs.View.{filling_of, progress_of, site_seen, standing_of, Advances, States};
+ghost use Rattle.vax_asm_first.specs.View.{filling_of, progress_of, site_seen, standing_of, Advances, States, KeepsMark};
 ghost use Rattle.vax_asm_statement.specs.Items.{item_seen, whole};
 ghost use Rattle.vax_asm_statement.specs.Parts.{parts};
 ghost use Rattle.vax_asm_statement.specs.Within.{ItemWithin};
@@ -45,8 +45,9 @@ pub(crate) fn fix(
     count: u64,
     filling: Filling,
 ) -> Result<Option<FaultKind>, NoMemory>
-    ensures { Advances (fixed kind (site_seen site.entry) count (filling_of filling))
+    ensures stated { Advances (fixed kind (site_seen site.entry) count (filling_of filling))
         result standing.old standing.new }
+    ensures mark { KeepsMark standing.old standing.new }
 {
     if count > MOST_ITEMS {
         return Ok(Some(too_many(standing)));
@@ -70,8 +71,9 @@ fn state_zero(
     item: Item<'_>,
 ) -> Result<Option<FaultKind>, NoMemory>
     requires { ItemWithin site.line.now.value.items (item_seen item) }
-    ensures { Advances (zero_stated kind (site_seen site.entry) (item_seen item.entry))
+    ensures stated { Advances (zero_stated kind (site_seen site.entry) (item_seen item.entry))
         result standing.old standing.new }
+    ensures mark { KeepsMark standing.old standing.new }
 {
     match known_count(standing, alloc, site, item.count)? {
         Ok(count) => fix(
@@ -94,8 +96,9 @@ fn state_expression(
     item: Item<'_>,
 ) -> Result<Option<FaultKind>, NoMemory>
     requires { ItemWithin site.line.now.value.items (item_seen item) }
-    ensures { Advances (expression_stated kind (site_seen site.entry) (item_seen item.entry))
+    ensures stated { Advances (expression_stated kind (site_seen site.entry) (item_seen item.entry))
         result standing.old standing.new }
+    ensures mark { KeepsMark standing.old standing.new }
 {
     let misplaced = misplaces(standing.dialect, site.line, item.expression);
     let here = item_place(standing, site)?;
@@ -130,8 +133,9 @@ fn state_item(
     item: Item<'_>,
 ) -> Result<Option<FaultKind>, NoMemory>
     requires { ItemWithin site.line.now.value.items (item_seen item) }
-    ensures { Advances (item_stated kind (site_seen site.entry) (item_seen item.entry))
+    ensures stated { Advances (item_stated kind (site_seen site.entry) (item_seen item.entry))
         result standing.old standing.new }
+    ensures mark { KeepsMark standing.old standing.new }
 {
     if is_nothing(item.expression) && standing.dialect.has_empty_items() {
         state_zero(standing, alloc, site, kind, item)
@@ -167,8 +171,9 @@ fn state_part(
     part: &[Token],
 ) -> Result<Option<FaultKind>, NoMemory>
     requires { All (IsTokenOf site.line.now.value.items) part.now }
-    ensures { Advances (item_stated kind (site_seen site.entry) (item_as once part.now))
+    ensures stated { Advances (item_stated kind (site_seen site.entry) (item_as once part.now))
         result standing.old standing.new }
+    ensures mark { KeepsMark standing.old standing.new }
 {
     let item = read_as(once, part);
     state_item(standing, alloc, site, kind, item)
@@ -183,8 +188,9 @@ pub fn item(
     tokens: &[Token],
 ) -> Result<Option<FaultKind>, NoMemory>
     requires { All (IsTokenOf site.line.now.value.items) tokens.now }
-    ensures { Advances (item_stated kind (site_seen site.entry) (whole tokens.now))
+    ensures stated { Advances (item_stated kind (site_seen site.entry) (whole tokens.now))
         result standing.old standing.new }
+    ensures mark { KeepsMark standing.old standing.new }
 {
     state_part(standing, alloc, site, kind, true, tokens)
 }
@@ -201,9 +207,10 @@ fn state_items(
 ) -> Result<Option<FaultKind>, NoMemory>
     requires tokens { All (IsTokenOf site.line.now.value.items) operands.now }
     requires few { length operands.now < 2 ^ 32 }
-    ensures { IfOk result (λ f. progress_of f standing.new
+    ensures stated { IfOk result (λ f. progress_of f standing.new
         ≡ items_stated kind (site_seen site.entry) (map (item_as once)
         (parts operands.now)) (begun (standing_of standing.old))) }
+    ensures mark { KeepsMark standing.old standing.new }
 {
     let list = parts(alloc, operands).map_err(|_| NoMemory)?;
     let mut fault = None;
@@ -226,9 +233,10 @@ fn state(
 ) -> Result<Option<FaultKind>, NoMemory>
     requires tokens { All (IsTokenOf line.now.value.items) operands.now }
     requires few { length operands.now < 2 ^ 32 }
-    ensures { IfOk result (λ f. progress_of f standing.new
+    ensures stated { IfOk result (λ f. progress_of f standing.new
         ≡ items_stated kind (site_of origin line.now.value.items (standing_of standing.old))
         (map (item_as once) (parts operands.now)) (begun (standing_of standing.old))) }
+    ensures mark { KeepsMark standing.old standing.new }
 {
     let site = site_of(origin, line, standing)?;
     state_items(standing, alloc, site, kind, once, operands)
@@ -251,8 +259,9 @@ pub fn data(
 ) -> Result<(), Refused>
     requires tokens { All (IsTokenOf line.now.value.items) operands.now }
     requires few { length operands.now < 2 ^ 32 }
-    ensures { States (data_stated kind origin line.now.value.items operands.now)
+    ensures stands { States (data_stated kind origin line.now.value.items operands.now)
         result standing.old standing.new }
+    ensures mark { KeepsMark standing.old standing.new }
 {
     if operands.is_empty() {
         return Err(Refused::Fault(FaultKind::Count));
@@ -277,8 +286,9 @@ pub fn addresses(
 ) -> Result<(), Refused>
     requires tokens { All (IsTokenOf line.now.value.items) operands.now }
     requires few { length operands.now < 2 ^ 32 }
-    ensures { States (addresses_stated origin line.now.value.items operands.now)
+    ensures stands { States (addresses_stated origin line.now.value.items operands.now)
         result standing.old standing.new }
+    ensures mark { KeepsMark standing.old standing.new }
 {
     if operands.is_empty() {
         return Err(Refused::Fault(FaultKind::Count));

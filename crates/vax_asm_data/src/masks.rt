@@ -2,7 +2,7 @@
 
 ghost use Rattle.std.specs.Prelude.{◌≡◌, All, IfOk, OnOk};
 ghost use Rattle.vax_asm_data.specs.Masks.{masked_stated, masked_told};
-ghost use Rattle.vax_asm_first.specs.View.{site_seen, standing_of, told_of, Advances, ChangesScope};
+ghost use Rattle.vax_asm_first.specs.View.{site_seen, standing_of, told_of, Advances, ChangesScope, KeepsMark};
 ghost use Rattle.vax_asm_scope.specs.Kept.{scope_of};
 ghost use Rattle.vax_lex.specs.Tokens.{IsTokenOf};
 ghost use Rattle.vax_lex.specs.declared.token.TokenKind.TheVariants.{Name};
@@ -19,6 +19,7 @@ use vax_space::NoMemory;
 use vax_word::Size;
 
 /// The mask of an entry where it stands, alone or OR-ed with an expression.
+#[tactic(auto, unfolding(vax_asm_first::specs::View::marked_standing))]
 fn tell_masked(
     standing: &mut Standing,
     alloc: Global,
@@ -35,6 +36,7 @@ fn tell_masked(
         ≡ masked_told (site_seen site.entry) entry.now key tokens.now here
         (standing_of standing.old)) }
     ensures same { OnOk result (ChangesScope standing.old standing.new) }
+    ensures mark { KeepsMark standing.old standing.new }
 {
     let definition = standing.scope.mask(alloc, entry)?;
     let expression = standing.scope.masked_expression(
@@ -62,8 +64,9 @@ pub fn masked_item(
     requires tokens { All (IsTokenOf site.line.now.value.items) tokens.now }
     requires key { IsTokenOf site.line.now.value.items key }
     requires kind { key.kind ≡ Name }
-    ensures { Advances (masked_stated (site_seen site.entry) entry.now key tokens.now)
+    ensures stated { Advances (masked_stated (site_seen site.entry) entry.now key tokens.now)
         result standing.old standing.new }
+    ensures mark { KeepsMark standing.old standing.new }
 {
     let kind = DataKind::Number(Size::W);
     let misplaced = misplaces(standing.dialect, site.line, tokens);

@@ -5,7 +5,7 @@ ghost use Rattle.vax_asm_data.specs.Data.{address_stated, before_pieces, behind_
 ghost use Rattle.vax_asm_data.specs.View.{ending_of};
 ghost use Rattle.vax_lex.specs.Tokens.{IsTokenOf};
 ghost use Rattle.vax_asm_first.specs.Progress.{site_of};
-ghost use Rattle.vax_asm_first.specs.View.{progress_of, site_seen, standing_of, Advances, States};
+ghost use Rattle.vax_asm_first.specs.View.{progress_of, site_seen, standing_of, Advances, States, KeepsMark};
 ghost use Rattle.vax_asm_statement.specs.Items.{piece_seen};
 ghost use Rattle.vax_asm_statement.specs.Within.{PieceWithin};
 
@@ -81,8 +81,9 @@ fn state_piece(
     piece: Piece<'_>,
 ) -> Result<Option<FaultKind>, NoMemory>
     requires { PieceWithin site.line.now.value.items (piece_seen piece) }
-    ensures { Advances (piece_stated (site_seen site.entry) (piece_seen piece.entry))
+    ensures stated { Advances (piece_stated (site_seen site.entry) (piece_seen piece.entry))
         result standing.old standing.new }
+    ensures mark { KeepsMark standing.old standing.new }
 {
     match piece {
         Piece::Characters(token) => {
@@ -105,8 +106,10 @@ fn state_pieces(
     pieces: &[Piece<'_>],
 ) -> Result<Option<FaultKind>, NoMemory>
     requires { All (PieceWithin site.line.now.value.items) (map piece_seen pieces.now) }
-    ensures { IfOk result (λ f. progress_of f standing.new ≡ pieces_stated (site_seen site.entry)
-        (map piece_seen pieces.now) (progress_of before standing.old)) }
+    ensures stated { IfOk result (λ f. progress_of f standing.new
+        ≡ pieces_stated (site_seen site.entry) (map piece_seen pieces.now)
+        (progress_of before standing.old)) }
+    ensures mark { KeepsMark standing.old standing.new }
 {
     let mut fault = before;
     for piece in pieces {
@@ -123,7 +126,8 @@ fn state_count(
     count: Option<usize>,
 ) -> Result<Option<FaultKind>, NoMemory>
     requires { IfSome count (λ n. n ≤ 255) }
-    ensures { Advances (count_stated count) result standing.old standing.new }
+    ensures stated { Advances (count_stated count) result standing.old standing.new }
+    ensures mark { KeepsMark standing.old standing.new }
 {
     let Some(count) = count else {
         return Ok(Some(FaultKind::Range));
@@ -156,8 +160,9 @@ fn state_address(
     site: Site<'_>,
     before: Option<FaultKind>,
 ) -> Result<Option<FaultKind>, NoMemory>
-    ensures { IfOk result (λ f. progress_of f standing.new
+    ensures stated { IfOk result (λ f. progress_of f standing.new
         ≡ address_stated (site_seen site.entry) (progress_of before standing.old)) }
+    ensures mark { KeepsMark standing.old standing.new }
 {
     let address = Filling::Known(place_behind(8, site.here));
     let found = fix(standing, site, DataKind::Number(Size::L), 1, address)?;
@@ -172,8 +177,9 @@ fn state_descriptor(
     count: Option<usize>,
 ) -> Result<Option<FaultKind>, NoMemory>
     requires { IfSome count (λ n. n ≤ 65535) }
-    ensures { Advances (descriptor_stated count (site_seen site.entry))
+    ensures stated { Advances (descriptor_stated count (site_seen site.entry))
         result standing.old standing.new }
+    ensures mark { KeepsMark standing.old standing.new }
 {
     let Some(count) = count else {
         return Ok(Some(FaultKind::Range));
@@ -194,9 +200,10 @@ fn state_front(
     pieces: &[Piece<'_>],
 ) -> Result<Option<FaultKind>, NoMemory>
     requires { All (PieceWithin site.line.now.value.items) (map piece_seen pieces.now) }
-    ensures { Advances (before_pieces (ending_of form) (site_seen site.entry)
+    ensures stated { Advances (before_pieces (ending_of form) (site_seen site.entry)
         (pieces_length site.entry.line.now.value.items (map piece_seen pieces.now)))
         result standing.old standing.new }
+    ensures mark { KeepsMark standing.old standing.new }
 {
     match form {
         TextForm::Plain | TextForm::ZeroLast => Ok(None),
@@ -213,8 +220,9 @@ fn state_end(
     form: TextForm,
     fault: Option<FaultKind>,
 ) -> Result<Option<FaultKind>, NoMemory>
-    ensures { IfOk result (λ f. progress_of f standing.new
+    ensures stated { IfOk result (λ f. progress_of f standing.new
         ≡ behind_pieces (ending_of form) (progress_of fault standing.old)) }
+    ensures mark { KeepsMark standing.old standing.new }
 {
     match form {
         TextForm::Plain | TextForm::CountFirst | TextForm::DescriptorFirst => Ok(fault),
@@ -232,9 +240,10 @@ fn state_text(
     pieces: &[Piece<'_>],
 ) -> Result<Option<FaultKind>, NoMemory>
     requires { All (PieceWithin line.now.value.items) (map piece_seen pieces.now) }
-    ensures { IfOk result (λ f. progress_of f standing.new ≡ text_parts (ending_of form)
+    ensures stated { IfOk result (λ f. progress_of f standing.new ≡ text_parts (ending_of form)
         (site_of origin line.now.value.items (standing_of standing.old))
         (map piece_seen pieces.now) (standing_of standing.old)) }
+    ensures mark { KeepsMark standing.old standing.new }
 {
     let site = site_of(origin, line, standing)?;
     let front = state_front(standing, alloc, form, site, pieces)?;
@@ -259,8 +268,9 @@ pub fn text(
 ) -> Result<(), Refused>
     requires tokens { All (IsTokenOf line.now.value.items) operands.now }
     requires few { length operands.now < 2 ^ 32 }
-    ensures { States (text_stated (ending_of form) origin line.now.value.items operands.now)
+    ensures stands { States (text_stated (ending_of form) origin line.now.value.items operands.now)
         result standing.old standing.new }
+    ensures mark { KeepsMark standing.old standing.new }
 {
     if operands.is_empty() {
         return Err(Refused::Fault(FaultKind::Count));

@@ -1,7 +1,7 @@
 -- What the code's types mean.
-use Rattle.std.specs.Prelude.{◌≡◌, ℕ, map, Option, option_map, Result, Ok, Err, IfOk}
+use Rattle.std.specs.Prelude.{◌≡◌, ℕ, map, Option, Some, None, option_map, Result, Ok, Err, IfOk}
 use Rattle.vax_asm_sections.specs.Layout.{Part, Zeros, Bytes, Field, Section, Sections}
-use Rattle.vax_asm_sections.specs.View.{sections_of}
+use Rattle.vax_asm_sections.specs.View.{sections_of, marked_sections}
 use Rattle.vax_asm_sections.specs.declared.types.Layout.{Layout}
 use Rattle.vax_macro.specs.declared.error.FaultKind.{FaultKind}
 use Rattle.vax_asm_first.specs.Fixups as specs
@@ -18,7 +18,7 @@ use Rattle.vax_asm_first.specs.declared.types.Saved.{Saved}
 use Rattle.vax_asm_first.specs.declared.types.Standing.{Standing}
 use Rattle.vax_asm_first.specs.declared.types.Told.{Told}
 use Rattle.vax_asm_first.specs.declared.types.Transfer.{Transfer}
-use Rattle.vax_asm_scope.specs.Kept.{scope_of}
+use Rattle.vax_asm_scope.specs.Kept.{scope_of, marked_scope}
 use Rattle.vax_asm_scope.specs.Scope.{Scope}
 use Rattle.vax_asm_values.specs.View.{written_of}
 
@@ -63,6 +63,19 @@ standing_of s = record {
   saved = map saved_of s.saved.items;
   transfer = option_map transfer_of s.transfer;
 }
+
+-- what stood at the mark, where the names and the sections have one: all else is as it was there
+abbrev pub marked_by : Standing → Option Scope → Option (Sections Fixup) → Option standing.Standing
+marked_by s None sections = None
+marked_by s (Some scope) None = None
+marked_by s (Some scope) (Some sections) = Some (record (standing_of s) { scope = scope; sections = sections_seen sections })
+
+unfoldable pub marked_standing : Standing → Option standing.Standing
+marked_standing s = marked_by s (marked_scope s.scope) (marked_sections s.layout)
+
+-- The mark, if there still is one, is the same as before.
+abbrev pub KeepsMark : (old new : Standing) → Type 0
+KeepsMark old new = (m : standing.Standing) → marked_standing new ≡ Some m → marked_standing old ≡ Some m
 
 abbrev pub told_of : Told → Scope → standing.Told
 told_of t scope = record { written = written_of t.expression; value = t.value; settled = t.settled; scope = scope }

@@ -7,7 +7,7 @@ ghost use Rattle.vax_lex.specs.Tokens.{IsTokenOf};
 ghost use Rattle.vax_asm_first.specs.Fixups.{filling_by};
 ghost use Rattle.vax_asm_first.specs.Progress.{added, counted, site_of};
 ghost use Rattle.vax_asm_first.specs.Standing.{here_at, here_in, misplaces};
-ghost use Rattle.vax_asm_first.specs.View.{counted_of, filling_of, part_seen, site_seen, standing_of, Advances, ChangesScope};
+ghost use Rattle.vax_asm_first.specs.View.{counted_of, filling_of, part_seen, site_seen, standing_of, Advances, ChangesScope, KeepsMark};
 ghost use Rattle.vax_asm_scope.specs.Kept.{scope_of};
 ghost use Rattle.vax_asm_values.specs.View.{written_of};
 
@@ -86,7 +86,9 @@ pub fn add(
     size: u32,
     piece: Piece<Fixup>,
 ) -> Result<Option<FaultKind>, NoMemory>
-    ensures { Advances (added size (part_seen (part_of piece))) result standing.old standing.new }
+    ensures stated { Advances (added size (part_seen (part_of piece)))
+        result standing.old standing.new }
+    ensures mark { KeepsMark standing.old standing.new }
 {
     match standing.put(size, piece) {
         Ok(()) => Ok(None),
@@ -108,6 +110,7 @@ pub fn known_count(
         ≡ counted (site_seen site.entry)
         (option_map (λ t. t.now) tokens.entry) (scope_of standing.old.scope)) }
     ensures same { OnOk result (ChangesScope standing.old standing.new) }
+    ensures mark { KeepsMark standing.old standing.new }
 {
     let Some(tokens) = tokens else {
         return Ok(Ok(1));

@@ -1,12 +1,12 @@
 // What the statements so far leave.
 
-ghost use Rattle.std.specs.Prelude.{◌≡◌, ◌≤◌, All, IfOk, OnOk, length, option_map, true};
+ghost use Rattle.std.specs.Prelude.{◌≡◌, ◌≤◌, All, IfOk, OnOk, Some, None, is_some, length, option_map, true};
 ghost use Rattle.vax_asm_sections.specs.Layout.{current_of, is_absolute, only_counts, place_in, put, aligned};
 ghost use Rattle.vax_asm_sections.specs.View.{part_of};
 ghost use Rattle.vax_lex.specs.Grammar.{symbols_of};
 ghost use Rattle.vax_lex.specs.Tokens.{IsTokenOf};
 ghost use Rattle.vax_asm_first.specs.Standing.{at_start, block_of, here_in, last_of, put_aside, set_back, told, unless_certain, with_sections, without_last};
-ghost use Rattle.vax_asm_first.specs.View.{saved_of, standing_of, told_of, part_seen, Alters, ChangesScope};
+ghost use Rattle.vax_asm_first.specs.View.{saved_of, standing_of, marked_standing, told_of, part_seen, Alters, ChangesScope, KeepsMark};
 ghost use Rattle.vax_asm_scope.specs.Kept.{scope_of};
 ghost use Rattle.vax_asm_values.specs.Certain.{certain};
 ghost use Rattle.vax_asm_values.specs.Values.{Means, Worked, value_of};
@@ -61,6 +61,44 @@ impl Standing {
             saved: Vec::new(alloc),
             transfer: None,
         })
+    }
+
+    /// Sets a mark here, to which [`Standing::go_back`] goes back. A call that can't be undone removes it.
+    #[tactic(auto, unfolding(crate::specs::View::marked_standing))]
+    pub fn mark(&mut self)
+        ensures same { standing_of self.new ≡ standing_of self.old }
+        ensures marked { marked_standing self.new ≡ Some (standing_of self.old) }
+    {
+        self.scope.mark();
+        self.layout.mark();
+    }
+
+    /// Removes the mark. Whoever changes another field than the names and the sections does this first.
+    #[tactic(auto, unfolding(crate::specs::View::marked_standing))]
+    pub fn unmark(&mut self)
+        ensures same { standing_of self.new ≡ standing_of self.old }
+        ensures marked { marked_standing self.new ≡ None }
+    {
+        self.scope.unmark();
+        self.layout.unmark();
+    }
+
+    /// Whether there is a mark.
+    #[tactic(auto, unfolding(crate::specs::View::marked_standing))]
+    pub fn is_marked(&self) -> bool
+        ensures { result ≡ is_some (marked_standing self.now) }
+    {
+        self.scope.is_marked() && self.layout.is_marked()
+    }
+
+    /// Makes all what it was at the mark, in time with what has changed since, and removes the mark. False if there is no mark; nothing
+    /// of use is left then.
+    #[tactic(auto, unfolding(crate::specs::View::marked_standing))]
+    pub fn go_back(&mut self, alloc: Global) -> bool
+        ensures back { result ≡ true → marked_standing self.old ≡ Some (standing_of self.new) }
+        ensures marked { marked_standing self.new ≡ None }
+    {
+        self.scope.go_back(alloc) && self.layout.go_back()
     }
 
     /// How many bytes the section has that the next statement goes into.
@@ -120,9 +158,10 @@ impl Standing {
     ///
     /// [`Refused::Fault`] with `Depth` where 31 are put aside, [`Refused::NoMemory`] where memory is refused; all is as before
     /// then.
-    #[tactic(auto, using(crate::proofs::Saving::one_more, crate::proofs::Saving::count_seen))]
+    #[tactic(auto, using(crate::proofs::Saving::one_more, crate::proofs::Saving::count_seen), unfolding(crate::specs::View::marked_standing))]
     pub fn put_aside(&mut self, alloc: Global, with_block: bool) -> Result<(), Refused>
-        ensures { Alters (put_aside with_block) result self.old self.new }
+        ensures stands { Alters (put_aside with_block) result self.old self.new }
+        ensures mark { KeepsMark self.old self.new }
     {
         if self.saved.len() >= MOST_SAVED {
             return Err(Refused::Fault(FaultKind::Depth));
@@ -131,6 +170,7 @@ impl Standing {
         let Ok(section) = self.section_name().to_vec(alloc) else {
             return Err(Refused::NoMemory);
         };
+        self.unmark();
         match self.saved.push(Saved { section, block }) {
             Ok(()) => Ok(()),
             Err(_) => Err(Refused::NoMemory),
@@ -138,11 +178,13 @@ impl Standing {
     }
 
     /// Takes the section that was put aside last, if there is one.
-    #[tactic(auto, using(crate::proofs::Saving::last_seen, crate::proofs::Saving::rest_seen))]
+    #[tactic(auto, using(crate::proofs::Saving::last_seen, crate::proofs::Saving::rest_seen), unfolding(crate::specs::View::marked_standing))]
     pub fn take_saved(&mut self) -> Option<Saved>
         ensures saved { option_map saved_of result ≡ last_of (standing_of self.old).saved }
         ensures rest { standing_of self.new ≡ without_last (standing_of self.old) }
+        ensures mark { KeepsMark self.old self.new }
     {
+        self.unmark();
         self.saved.pop()
     }
 
@@ -163,6 +205,7 @@ impl Standing {
     }
 
     /// An expression of a line in a dialect where it stands, and its value by what stands before it. `here` is what `.` is worth.
+    #[tactic(auto, unfolding(crate::specs::View::marked_standing))]
     pub fn tell(
         &mut self,
         alloc: Global,
@@ -179,6 +222,7 @@ impl Standing {
         // Its names mean definitions that there are.
         ensures means { IfOk result (λ t. Means (length (scope_of self.new.scope).sources)
             (Worked (written_of t.expression))) }
+        ensures mark { KeepsMark self.old self.new }
     {
         let expression = self.scope.expression(alloc, dialect, line, tokens, here)?;
         let value = self.scope.evaluate(&expression);
@@ -194,10 +238,12 @@ impl Standing {
     ///
     /// [`Refused::Fault`] where an absolute or overlaid section would hold data, or the section or the module would be too long, and all is as before then;
     /// [`Refused::NoMemory`] where memory is refused.
-    #[tactic(auto, using(crate::proofs::Seeing::put_stands, crate::proofs::Seeing::put_fails))]
+    #[tactic(auto, using(crate::proofs::Seeing::put_stands, crate::proofs::Seeing::put_fails), unfolding(crate::specs::View::marked_standing))]
     pub fn put(&mut self, size: u32, piece: Piece<Fixup>) -> Result<(), Refused>
-        ensures { Alters (λ s. with_sections s (put size (part_seen (part_of piece)) s.sections))
+        ensures stands { Alters
+            (λ s. with_sections s (put size (part_seen (part_of piece)) s.sections))
             result self.old self.new }
+        ensures mark { KeepsMark self.old self.new }
     {
         match self.layout.put(size, piece) {
             Ok(()) => Ok(()),
@@ -208,11 +254,12 @@ impl Standing {
     }
 
     /// The section that the next statement goes into, which is absolute, goes on at a place before.
-    #[tactic(auto, using(crate::proofs::Seeing::absolute_seen, crate::proofs::Seeing::place_seen, crate::proofs::Seeing::back_stands))]
+    #[tactic(auto, using(crate::proofs::Seeing::absolute_seen, crate::proofs::Seeing::place_seen, crate::proofs::Seeing::back_stands), unfolding(crate::specs::View::marked_standing))]
     pub fn set_back(&mut self, to: u32)
         requires absolute { is_absolute (current_of (standing_of self.old).sections) ≡ true }
         requires before { to ≤ place_in (current_of (standing_of self.old).sections) }
-        ensures { standing_of self.new ≡ set_back to (standing_of self.old) }
+        ensures stands { standing_of self.new ≡ set_back to (standing_of self.old) }
+        ensures mark { KeepsMark self.old self.new }
     {
         self.layout.set_back(to);
     }
@@ -221,11 +268,12 @@ impl Standing {
     /// it to that at least.
     ///
     /// [`Refused`] as for [`Standing::put`].
-    #[tactic(auto, using(crate::proofs::Seeing::align_stands, crate::proofs::Seeing::align_fails))]
+    #[tactic(auto, using(crate::proofs::Seeing::align_stands, crate::proofs::Seeing::align_fails), unfolding(crate::specs::View::marked_standing))]
     pub fn align(&mut self, align: u8) -> Result<(), Refused>
         requires { align ≤ 9 }
-        ensures { Alters (λ s. with_sections s (aligned align s.sections))
+        ensures stands { Alters (λ s. with_sections s (aligned align s.sections))
             result self.old self.new }
+        ensures mark { KeepsMark self.old self.new }
     {
         match self.layout.align(align) {
             Ok(()) => Ok(()),

@@ -5,7 +5,7 @@ ghost use Rattle.vax_asm_instruction.specs.Stating.{front_stated, read_of, refer
 ghost use Rattle.vax_asm_instruction.specs.View.{Reaches};
 ghost use Rattle.vax_isa.specs.Rows.{IsKind};
 ghost use Rattle.vax_lex.specs.Tokens.{IsTokenOf};
-ghost use Rattle.vax_asm_first.specs.View.{progress_of, site_seen, standing_of, States};
+ghost use Rattle.vax_asm_first.specs.View.{progress_of, site_seen, standing_of, States, KeepsMark};
 
 use crate::statement::{Reached, state_operand};
 use std::alloc::Global;
@@ -53,6 +53,7 @@ fn state_front(
 ) -> Result<Reached, NoMemory>
     ensures reached { Reaches (front_stated referring) result standing.old standing.new }
     ensures near { IfOk result (λ r. r.at ≤ 1048578) }
+    ensures mark { KeepsMark standing.old standing.new }
 {
     let at = standing.section_size();
     match referring {
@@ -74,8 +75,9 @@ fn state(
     one: &[Token],
 ) -> Result<Option<FaultKind>, NoMemory>
     requires tokens { All (IsTokenOf site.line.now.value.items) one.now }
-    ensures { IfOk result (λ f. progress_of f standing.new
+    ensures stated { IfOk result (λ f. progress_of f standing.new
         ≡ (referred referring (site_seen site.entry) one.now (standing_of standing.old)).progress) }
+    ensures mark { KeepsMark standing.old standing.new }
 {
     let front = state_front(standing, alloc, referring)?;
     let kind = referred_kind(referring);
@@ -100,8 +102,9 @@ pub fn reference(
 ) -> Result<(), Refused>
     requires tokens { All (IsTokenOf line.now.value.items) operands.now }
     requires few { length operands.now < 2 ^ 32 }
-    ensures { States (reference_stated referring origin line.now.value.items operands.now)
+    ensures stands { States (reference_stated referring origin line.now.value.items operands.now)
         result standing.old standing.new }
+    ensures mark { KeepsMark standing.old standing.new }
 {
     let Ok(found) = parts(alloc, operands) else {
         return Err(Refused::NoMemory);

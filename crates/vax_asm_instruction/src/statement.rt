@@ -9,7 +9,7 @@ ghost use Rattle.vax_isa.specs.Rows.{IsKind, IsFormed, plain};
 ghost use Rattle.vax_asm_sections.specs.Layout.{current_of};
 ghost use Rattle.vax_lex.specs.Tokens.{IsTokenOf};
 ghost use Rattle.vax_asm_first.specs.Progress.{site_of};
-ghost use Rattle.vax_asm_first.specs.View.{filling_of, progress_of, site_seen, standing_of, ChangesScope, States};
+ghost use Rattle.vax_asm_first.specs.View.{filling_of, progress_of, site_seen, standing_of, ChangesScope, States, KeepsMark};
 ghost use Rattle.vax_asm_scope.specs.Kept.{scope_of};
 ghost use Rattle.vax_asm_statement.specs.Modes.{seen};
 ghost use Rattle.vax_asm_statement.specs.Parts.{parts};
@@ -63,6 +63,7 @@ pub(crate) fn prepare(
         ≡ prepared (standing_of standing.old).dialect (site_seen site.entry)
         (seen operand.entry) (scope_of standing.old.scope)) }
     ensures same { OnOk result (ChangesScope standing.old standing.new) }
+    ensures mark { KeepsMark standing.old standing.new }
 {
     let Written {
         mode,
@@ -128,8 +129,9 @@ fn fix(
     requires kind { IsKind kind }
     requires stands { may_stand kind operand ≡ true }
     requires near { at + 6 < 2 ^ 32 }
-    ensures { IfOk result (λ f. progress_of f standing.new ≡ fixed (site_seen site.entry)
+    ensures stated { IfOk result (λ f. progress_of f standing.new ≡ fixed (site_seen site.entry)
         kind operand (filling_of filling) at (standing_of standing.old) None) }
+    ensures mark { KeepsMark standing.old standing.new }
 {
     let fixup = Fixup {
         origin: site.origin,
@@ -154,6 +156,7 @@ fn place(
         kind (prepared_seen prepared (scope_of standing.old.scope)) at)
         result standing.old standing.new }
     ensures near { IfOk result (λ r. r.at ≤ at + 9) }
+    ensures mark { KeepsMark standing.old standing.new }
 {
     let section = u32::try_from(standing.layout.number()).map_err(|_| NoMemory)?;
     let addressed = by_default(standing.displacement, section, prepared.addressed);
@@ -214,6 +217,7 @@ pub(crate) fn state_operand(
     ensures reached { Reaches (operand_stated (site_seen site.entry) kind tokens.now at)
         result standing.old standing.new }
     ensures near { IfOk result (λ r. r.at ≤ at + 9) }
+    ensures mark { KeepsMark standing.old standing.new }
 {
     let written = operand_as(standing.absolute, kind, site.line, tokens);
     let here = site_for(standing, site, at)?;
@@ -235,9 +239,10 @@ fn state_operands(
     requires count { length operands.now ≡ row.now.count }
     requires tokens { All (λ o. All (IsTokenOf site.line.now.value.items) o.now) operands.now }
     requires near { before.at ≤ 1048577 }
-    ensures { IfOk result (λ f. progress_of f standing.new
+    ensures stated { IfOk result (λ f. progress_of f standing.new
         ≡ (operands_stated (site_seen site.entry) (map (λ o. o.now) operands.now)
         row.now.operands (reached_seen before standing.old)).progress) }
+    ensures mark { KeepsMark standing.old standing.new }
 {
     let Reached { mut at, mut fault } = before;
     for i in 0..operands.len() {
@@ -252,6 +257,7 @@ fn state_operands(
 fn state_opcode(standing: &mut Standing, alloc: Global, row: &Row) -> Result<Reached, NoMemory>
     ensures reached { Reaches (opcode_stated (plain row.now)) result standing.old standing.new }
     ensures near { IfOk result (λ r. r.at ≤ 1048577) }
+    ensures mark { KeepsMark standing.old standing.new }
 {
     let at = standing.section_size() + 1;
     let code = vec![in alloc; row.code].map_err(|_| NoMemory)?;
@@ -270,9 +276,10 @@ fn state(
     requires formed { IsFormed (plain row.now) }
     requires count { length operands.now ≡ row.now.count }
     requires tokens { All (λ o. All (IsTokenOf site.line.now.value.items) o.now) operands.now }
-    ensures { IfOk result (λ f. progress_of f standing.new
+    ensures stated { IfOk result (λ f. progress_of f standing.new
         ≡ (operands_stated (site_seen site.entry) (map (λ o. o.now) operands.now)
         row.now.operands (opcode_stated (plain row.now) (standing_of standing.old))).progress) }
+    ensures mark { KeepsMark standing.old standing.new }
 {
     let before = state_opcode(standing, alloc, row)?;
     state_operands(standing, alloc, site, row, operands, before)
@@ -303,6 +310,7 @@ pub fn instruction(
     ensures read_back { OnOk result
         (HasInstruction (plain row.now) (current_of (standing_of standing.old).sections)
         (current_of (standing_of standing.new).sections)) }
+    ensures mark { KeepsMark standing.old standing.new }
 {
     let Ok(list) = parts(alloc, operands) else {
         return Err(Refused::NoMemory);

@@ -5,7 +5,7 @@ ghost use Rattle.vax_asm_instruction.specs.Stating.{read_of};
 ghost use Rattle.vax_asm_instruction.specs.Typing.{base_type, deferred_mode, displaced_mode, operand_type, prepared_type, type_of, typed_operand, unless_faulty, with_register};
 ghost use Rattle.vax_asm_instruction.specs.View.{prepared_seen};
 ghost use Rattle.vax_lex.specs.Tokens.{IsTokenOf};
-ghost use Rattle.vax_asm_first.specs.View.{ChangesScope, counted_of, standing_of};
+ghost use Rattle.vax_asm_first.specs.View.{ChangesScope, counted_of, standing_of, KeepsMark};
 ghost use Rattle.vax_asm_scope.specs.Kept.{scope_of};
 ghost use Rattle.vax_asm_scope.specs.Scope.{Scope};
 
@@ -167,6 +167,7 @@ pub fn operand_type_here(
     ensures number { IfOk result (λ n. counted_of n (scope_of standing.new.scope)
         ≡ typed_operand origin line.now.value.items tokens.now (standing_of standing.old)) }
     ensures same { OnOk result (ChangesScope standing.old standing.new) }
+    ensures mark { KeepsMark standing.old standing.new }
 {
     let site = site_of(origin, line, standing)?;
     let at = standing.section_size();

@@ -5,7 +5,7 @@ ghost use Rattle.vax_lex.specs.Tokens.{IsTokenOf};
 ghost use Rattle.vax_asm_labels.specs.Naming.{assigned_by, assignment_stated, fault_of, name_assigned, named_assignment, offset_of, place_assigned, place_moved, target, waiting, waiting_as, waiting_by, with_waiting};
 ghost use Rattle.vax_asm_labels.specs.View.{Leaves};
 ghost use Rattle.vax_asm_first.specs.Progress.{done_by};
-ghost use Rattle.vax_asm_first.specs.View.{assignment_of, site_seen, standing_of, told_of, Stands, States};
+ghost use Rattle.vax_asm_first.specs.View.{assignment_of, site_seen, standing_of, told_of, Stands, States, KeepsMark};
 ghost use Rattle.vax_asm_scope.specs.Kept.{scope_of};
 ghost use Rattle.vax_asm_scope.specs.Scope.{assigned};
 ghost use Rattle.vax_dialect.specs.Differences.{assigns_places};
@@ -77,6 +77,7 @@ fn keep(
 }
 
 /// What is assigned is a name's definition.
+#[tactic(auto, unfolding(vax_asm_first::specs::View::marked_standing))]
 fn define(
     standing: &mut Standing,
     assignments: &mut Vec<Assignment>,
@@ -94,6 +95,7 @@ fn define(
     ensures waits { Leaves (waiting_by origin name.now (told_of told (scope_of standing.old.scope))
         (assigned name.now (written_of told.expression) (scope_of standing.old.scope)))
         result assignments.old assignments.new }
+    ensures mark { KeepsMark standing.old standing.new }
 {
     let Ok(waiting) = waiting(alloc, &told) else {
         return Err(Refused::NoMemory);
@@ -113,6 +115,7 @@ fn define(
 }
 
 /// An assignment to a name that isn't local. Its fault, if it has one.
+#[tactic(auto, unfolding(vax_asm_first::specs::View::marked_standing))]
 fn assign(
     standing: &mut Standing,
     assignments: &mut Vec<Assignment>,
@@ -129,6 +132,7 @@ fn assign(
     ensures waiting { OnOk result (map assignment_of assignments.new.items
         ≡ with_waiting (name_assigned (site_seen site.entry) global name.now tokens.now
         (standing_of standing.old)).waiting (map assignment_of assignments.old.items)) }
+    ensures mark { KeepsMark standing.old standing.new }
 {
     standing.scope.appear(alloc, name)?;
     let told = standing.tell(alloc, site.dialect, site.line, tokens, site.here)?;
@@ -188,8 +192,9 @@ fn move_place(
     tokens: &[Token],
 ) -> Result<(), Refused>
     requires { All (IsTokenOf site.line.now.value.items) tokens.now }
-    ensures { States (place_moved (site_seen site.entry) tokens.now)
+    ensures stands { States (place_moved (site_seen site.entry) tokens.now)
         result standing.old standing.new }
+    ensures mark { KeepsMark standing.old standing.new }
 {
     let Ok(told) = standing.tell(alloc, site.dialect, site.line, tokens, site.here) else {
         return Err(Refused::NoMemory);
@@ -209,8 +214,9 @@ fn assign_place(
     tokens: &[Token],
 ) -> Result<(), Refused>
     requires { All (IsTokenOf site.line.now.value.items) tokens.now }
-    ensures { States (λ s. place_assigned (assigns_places s.dialect && not global)
+    ensures stands { States (λ s. place_assigned (assigns_places s.dialect && not global)
         (site_seen site.entry) tokens.now s) result standing.old standing.new }
+    ensures mark { KeepsMark standing.old standing.new }
 {
     if standing.dialect.assigns_places() && !global {
         move_place(standing, alloc, site, tokens)
@@ -235,6 +241,7 @@ fn assign_named(
         result standing.old standing.new }
     ensures waits { Leaves (named_assignment (site_seen site.entry) global name.now tokens.now
         (standing_of standing.old)).waiting result assignments.old assignments.new }
+    ensures mark { KeepsMark standing.old standing.new }
 {
     if is_place(name) {
         return assign_place(standing, alloc, site, global, tokens);
@@ -280,6 +287,7 @@ pub fn assignment(
         result standing.old standing.new }
     ensures waits { Leaves (assignment_stated origin line.now.value.items name global expression.now
         (standing_of standing.old)).waiting result assignments.old assignments.new }
+    ensures mark { KeepsMark standing.old standing.new }
 {
     let name = kept(line, name);
     let Ok(site) = site_of(origin, line, standing) else {

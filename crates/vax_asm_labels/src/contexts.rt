@@ -3,7 +3,7 @@
 ghost use Rattle.std.specs.Prelude.{◌≡◌, ◌<◌, ◌^◌, All, length, map, option_map};
 ghost use Rattle.vax_lex.specs.Tokens.{IsTokenOf};
 ghost use Rattle.vax_asm_labels.specs.Contexts.{block_wanted, is_block, restored_by, restored_stated, saved_stated};
-ghost use Rattle.vax_asm_first.specs.View.{saved_of, States};
+ghost use Rattle.vax_asm_first.specs.View.{saved_of, States, KeepsMark};
 ghost use Rattle.vax_asm_statement.specs.Items.{name_alone};
 
 use crate::sections::{NOTHING_SAID, choose_named};
@@ -54,7 +54,8 @@ pub fn save(
 ) -> Result<(), Refused>
     requires tokens { All (IsTokenOf line.now) operands.now }
     requires few { length operands.now < 2 ^ 32 }
-    ensures { States (saved_stated line.now operands.now) result standing.old standing.new }
+    ensures stands { States (saved_stated line.now operands.now) result standing.old standing.new }
+    ensures mark { KeepsMark standing.old standing.new }
 {
     let Ok(found) = parts(alloc, operands) else {
         return Err(Refused::NoMemory);
@@ -66,15 +67,18 @@ pub fn save(
 }
 
 /// A section that was put aside goes on.
+#[tactic(auto, unfolding(vax_asm_first::specs::View::marked_standing))]
 fn go_back(standing: &mut Standing, alloc: Global, saved: Option<Saved>) -> Result<(), Refused>
-    ensures { States (restored_by (option_map saved_of saved)) result standing.old standing.new }
+    ensures stands { States (restored_by (option_map saved_of saved))
+        result standing.old standing.new }
+    ensures mark { KeepsMark standing.old standing.new }
 {
     let Some(saved) = saved else {
         return Err(Refused::Fault(FaultKind::Nesting));
     };
     choose_named(standing, alloc, &saved.section, NOTHING_SAID)?;
     if let Some(block) = saved.block {
-        standing.scope.go_back(alloc, block);
+        standing.scope.resume_block(alloc, block);
     }
     Ok(())
 }
@@ -86,7 +90,8 @@ fn go_back(standing: &mut Standing, alloc: Global, saved: Option<Saved>) -> Resu
 /// is refused. Nothing of use is left then.
 #[tactic(auto, unfolding(crate::specs::Contexts::restored_stated))]
 pub fn restore(standing: &mut Standing, alloc: Global, operands: &[Token]) -> Result<(), Refused>
-    ensures { States (restored_stated operands.now) result standing.old standing.new }
+    ensures stands { States (restored_stated operands.now) result standing.old standing.new }
+    ensures mark { KeepsMark standing.old standing.new }
 {
     if !operands.is_empty() {
         return Err(Refused::Fault(FaultKind::Count));

@@ -3,7 +3,7 @@
 ghost use Rattle.std.specs.Prelude.{◌≡◌, ◌<◌, ◌^◌, All, length};
 ghost use Rattle.vax_lex.specs.Tokens.{IsTokenOf};
 ghost use Rattle.vax_asm_labels.specs.Defaults.{default_at, default_stated, is_displacement, size_at, size_of};
-ghost use Rattle.vax_asm_first.specs.View.{States};
+ghost use Rattle.vax_asm_first.specs.View.{States, KeepsMark};
 ghost use Rattle.vax_asm_statement.specs.Items.{name_alone};
 
 use std::alloc::Global;
@@ -63,7 +63,7 @@ fn default_at(line: &[u8], name: &[Token], size: &[Token]) -> Option<Narrow>
 ///
 /// [`Refused::Fault`]: `Count` where there aren't two operands, `Form` where the first is another or the second is none of `BYTE`, `WORD`
 /// and `LONG`. [`Refused::NoMemory`] where memory is refused. Nothing of use is left then.
-#[tactic(auto, unfolding(crate::specs::Defaults::default_stated))]
+#[tactic(auto, unfolding(vax_asm_first::specs::View::marked_standing, crate::specs::Defaults::default_stated))]
 pub fn default(
     standing: &mut Standing,
     alloc: Global,
@@ -72,7 +72,9 @@ pub fn default(
 ) -> Result<(), Refused>
     requires tokens { All (IsTokenOf line.now) operands.now }
     requires few { length operands.now < 2 ^ 32 }
-    ensures { States (default_stated line.now operands.now) result standing.old standing.new }
+    ensures stands { States (default_stated line.now operands.now)
+        result standing.old standing.new }
+    ensures mark { KeepsMark standing.old standing.new }
 {
     let Ok(found) = parts(alloc, operands) else {
         return Err(Refused::NoMemory);
@@ -83,6 +85,7 @@ pub fn default(
     let Some(size) = default_at(line, name, size) else {
         return Err(Refused::Fault(FaultKind::Form));
     };
+    standing.unmark();
     standing.displacement = size;
     Ok(())
 }

@@ -5,8 +5,8 @@ ghost use Rattle.vax_lex.specs.KeptNames.{kept_name};
 ghost use Rattle.vax_lex.specs.Tokens.{IsTokenOf};
 ghost use Rattle.vax_asm_labels.specs.Naming.{begins_at, end_stated, entry_named, entry_stated, mask_kept, mask_noted, names_from, names_stated, symbol_stated};
 ghost use Rattle.vax_asm_first.specs.Progress.{after_change, done_by};
-ghost use Rattle.vax_asm_first.specs.View.{progress_of, site_seen, standing_of, States};
-ghost use Rattle.vax_asm_scope.specs.Kept.{scope_of};
+ghost use Rattle.vax_asm_first.specs.View.{progress_of, site_seen, standing_of, States, KeepsMark};
+ghost use Rattle.vax_asm_scope.specs.Kept.{scope_of, KeepsMark as KeepsScopeMark};
 ghost use Rattle.vax_asm_statement.specs.Parts.{parts};
 
 use crate::labels::define;
@@ -28,8 +28,10 @@ fn state_label(
     alloc: Global,
     name: &[u8],
 ) -> Result<Option<FaultKind>, NoMemory>
-    ensures { IfOk result (λ f. progress_of f standing.new ≡ after_change (standing_of standing.old)
+    ensures stated { IfOk result (λ f. progress_of f standing.new
+        ≡ after_change (standing_of standing.old)
         (symbol_stated true name.now (standing_of standing.old))) }
+    ensures mark { KeepsMark standing.old standing.new }
 {
     match define(standing, alloc, true, name) {
         Ok(()) => Ok(None),
@@ -39,14 +41,16 @@ fn state_label(
 }
 
 /// The mask of an entry is kept, if it is a number that is known.
+#[tactic(auto, unfolding(vax_asm_first::specs::View::marked_standing))]
 fn keep_mask(
     standing: &mut Standing,
     alloc: Global,
     name: &[u8],
     mask: Result<Value, ExprError>,
 ) -> Result<Option<FaultKind>, NoMemory>
-    ensures { IfOk result (λ f. done_by f (standing_of standing.new)
+    ensures stated { IfOk result (λ f. done_by f (standing_of standing.new)
         ≡ mask_kept name.now mask (standing_of standing.old)) }
+    ensures mark { KeepsMark standing.old standing.new }
 {
     let Ok(Value::Absolute(number)) = mask else {
         return Ok(None);
@@ -70,8 +74,9 @@ fn note_mask(
     mask: &[Token],
 ) -> Result<Option<FaultKind>, NoMemory>
     requires { All (IsTokenOf site.line.now.value.items) mask.now }
-    ensures { IfOk result (λ f. done_by f (standing_of standing.new)
+    ensures stated { IfOk result (λ f. done_by f (standing_of standing.new)
         ≡ mask_noted (site_seen site.entry) name.now mask.now (standing_of standing.old)) }
+    ensures mark { KeepsMark standing.old standing.new }
 {
     let told = standing.tell(alloc, site.dialect, site.line, mask, site.here)?;
     keep_mask(standing, alloc, name, told.value)
@@ -86,8 +91,9 @@ fn state_entry(
     mask: &[Token],
 ) -> Result<Option<FaultKind>, NoMemory>
     requires { All (IsTokenOf site.line.now.value.items) mask.now }
-    ensures { IfOk result (λ f. done_by f (standing_of standing.new)
+    ensures stated { IfOk result (λ f. done_by f (standing_of standing.new)
         ≡ entry_named (site_seen site.entry) (Some name.now) mask.now (standing_of standing.old)) }
+    ensures mark { KeepsMark standing.old standing.new }
 {
     let fault = state_label(standing, alloc, name)?;
     let found = item(standing, alloc, site, DataKind::Number(Size::W), mask)?;
@@ -107,8 +113,10 @@ fn enter(
     mask: &[Token],
 ) -> Result<(), Refused>
     requires { All (IsTokenOf site.line.now.value.items) mask.now }
-    ensures { States (entry_named (site_seen site.entry) (option_map kept_name name) mask.now)
+    ensures stands { States
+        (entry_named (site_seen site.entry) (option_map kept_name name) mask.now)
         result standing.old standing.new }
+    ensures mark { KeepsMark standing.old standing.new }
 {
     let Some(name) = name else {
         return Err(Refused::Fault(FaultKind::Form));
@@ -136,8 +144,9 @@ pub fn entry(
 ) -> Result<(), Refused>
     requires tokens { All (IsTokenOf line.now.value.items) operands.now }
     requires few { length operands.now < 2 ^ 32 }
-    ensures { States (entry_stated origin line.now.value.items operands.now)
+    ensures stands { States (entry_stated origin line.now.value.items operands.now)
         result standing.old standing.new }
+    ensures mark { KeepsMark standing.old standing.new }
 {
     let Ok(found) = parts(alloc, operands) else {
         return Err(Refused::NoMemory);
@@ -162,8 +171,9 @@ fn appear_all(
 ) -> Result<bool, NoMemory>
     requires tokens { All (IsTokenOf line.now) operands.now }
     requires few { length operands.now < 2 ^ 32 }
-    ensures { IfOk result (λ all. (if all then Some (scope_of scope.new) else None)
+    ensures scope { IfOk result (λ all. (if all then Some (scope_of scope.new) else None)
         ≡ names_from linkage line.now (parts operands.now) (Some (scope_of scope.old))) }
+    ensures mark { KeepsScopeMark scope.old scope.new }
 {
     let Ok(list) = parts(alloc, operands) else {
         return Err(NoMemory);
@@ -182,7 +192,7 @@ fn appear_all(
 ///
 /// [`Refused::Fault`]: `Count` where there are no names, `Form` where an operand is no name. [`Refused::NoMemory`] where
 /// memory is refused. Nothing of use is left then.
-#[tactic(auto, unfolding(crate::specs::Naming::names_stated))]
+#[tactic(auto, unfolding(vax_asm_first::specs::View::marked_standing, crate::specs::Naming::names_stated))]
 pub fn names(
     standing: &mut Standing,
     alloc: Global,
@@ -192,7 +202,9 @@ pub fn names(
 ) -> Result<(), Refused>
     requires tokens { All (IsTokenOf line.now) operands.now }
     requires few { length operands.now < 2 ^ 32 }
-    ensures { States (names_stated linkage line.now operands.now) result standing.old standing.new }
+    ensures stands { States (names_stated linkage line.now operands.now)
+        result standing.old standing.new }
+    ensures mark { KeepsMark standing.old standing.new }
 {
     if operands.is_empty() {
         return Err(Refused::Fault(FaultKind::Count));
@@ -205,12 +217,15 @@ pub fn names(
 }
 
 /// The program begins at this name, if it is one.
+#[tactic(auto, unfolding(vax_asm_first::specs::View::marked_standing))]
 fn begin_at(
     standing: &mut Standing,
     alloc: Global,
     name: Option<CanonicalName>,
 ) -> Result<(), Refused>
-    ensures { States (begins_at (option_map kept_name name)) result standing.old standing.new }
+    ensures stands { States (begins_at (option_map kept_name name))
+        result standing.old standing.new }
+    ensures mark { KeepsMark standing.old standing.new }
 {
     let Some(name) = name else {
         return Err(Refused::Fault(FaultKind::Form));
@@ -224,6 +239,7 @@ fn begin_at(
     let Ok(name) = name.as_bytes().to_vec(alloc) else {
         return Err(Refused::NoMemory);
     };
+    standing.unmark();
     standing.transfer = Some(Transfer { name, definition });
     Ok(())
 }
@@ -241,7 +257,8 @@ pub fn end(
 ) -> Result<(), Refused>
     requires tokens { All (IsTokenOf line.now) operands.now }
     requires few { length operands.now < 2 ^ 32 }
-    ensures { States (end_stated line.now operands.now) result standing.old standing.new }
+    ensures stands { States (end_stated line.now operands.now) result standing.old standing.new }
+    ensures mark { KeepsMark standing.old standing.new }
 {
     let Ok(found) = parts(alloc, operands) else {
         return Err(Refused::NoMemory);

@@ -3,8 +3,8 @@
 ghost use Rattle.std.specs.Prelude.{◌≡◌, OnOk, true};
 ghost use Rattle.vax_lex.specs.Tokens.{IsTokenOf};
 ghost use Rattle.vax_asm_labels.specs.Naming.{label_stated, local_stated, named_label, next_block, shared, symbol_stated};
-ghost use Rattle.vax_asm_first.specs.View.{Alters};
-ghost use Rattle.vax_asm_scope.specs.Kept.{scope_of};
+ghost use Rattle.vax_asm_first.specs.View.{Alters, KeepsMark};
+ghost use Rattle.vax_asm_scope.specs.Kept.{scope_of, KeepsMark as KeepsScopeMark};
 ghost use Rattle.vax_asm_statement.specs.Tokens.{is_name_token};
 
 use crate::operands::{is_place, kept};
@@ -21,7 +21,8 @@ pub(crate) fn share(
     global: bool,
     name: &[u8],
 ) -> Result<(), NoMemory>
-    ensures { OnOk result (scope_of scope.new ≡ shared global name.now (scope_of scope.old)) }
+    ensures scope { OnOk result (scope_of scope.new ≡ shared global name.now (scope_of scope.old)) }
+    ensures mark { KeepsScopeMark scope.old scope.new }
 {
     if global {
         scope.link(alloc, name, Linkage::Global)?;
@@ -31,7 +32,8 @@ pub(crate) fn share(
 
 /// Begins a block of local labels, unless the one before goes on.
 pub(crate) fn next_block(scope: &mut Scope, alloc: Global, keeps: bool) -> Result<(), NoMemory>
-    ensures { OnOk result (scope_of scope.new ≡ next_block keeps (scope_of scope.old)) }
+    ensures scope { OnOk result (scope_of scope.new ≡ next_block keeps (scope_of scope.old)) }
+    ensures mark { KeepsScopeMark scope.old scope.new }
 {
     if !keeps {
         scope.begin_block(alloc)?;
@@ -40,13 +42,15 @@ pub(crate) fn next_block(scope: &mut Scope, alloc: Global, keeps: bool) -> Resul
 }
 
 /// A label that isn't local: it begins a block of local labels. After a fault all is as before.
+#[tactic(auto, unfolding(vax_asm_first::specs::View::marked_standing))]
 pub(crate) fn define(
     standing: &mut Standing,
     alloc: Global,
     global: bool,
     name: &[u8],
 ) -> Result<(), Refused>
-    ensures { Alters (symbol_stated global name.now) result standing.old standing.new }
+    ensures stands { Alters (symbol_stated global name.now) result standing.old standing.new }
+    ensures mark { KeepsMark standing.old standing.new }
 {
     let Ok(here) = standing.here() else {
         return Err(Refused::NoMemory);
@@ -66,13 +70,15 @@ pub(crate) fn define(
 }
 
 /// A local label. After a fault all is as before.
+#[tactic(auto, unfolding(vax_asm_first::specs::View::marked_standing))]
 fn define_local(
     standing: &mut Standing,
     alloc: Global,
     global: bool,
     name: &[u8],
 ) -> Result<(), Refused>
-    ensures { Alters (local_stated global name.now) result standing.old standing.new }
+    ensures stands { Alters (local_stated global name.now) result standing.old standing.new }
+    ensures mark { KeepsMark standing.old standing.new }
 {
     if global {
         return Err(Refused::Fault(FaultKind::Form));
@@ -93,7 +99,8 @@ fn define_named(
     global: bool,
     name: &[u8],
 ) -> Result<(), Refused>
-    ensures { Alters (named_label global name.now) result standing.old standing.new }
+    ensures stands { Alters (named_label global name.now) result standing.old standing.new }
+    ensures mark { KeepsMark standing.old standing.new }
 {
     if is_place(name) {
         return Err(Refused::Fault(FaultKind::Form));
@@ -119,7 +126,8 @@ pub fn label(
 ) -> Result<(), Refused>
     requires within { IsTokenOf line.now label.name }
     requires name { is_name_token label.name ≡ true }
-    ensures { Alters (label_stated line.now label) result standing.old standing.new }
+    ensures stands { Alters (label_stated line.now label) result standing.old standing.new }
+    ensures mark { KeepsMark standing.old standing.new }
 {
     let name = kept(line, label.name);
     define_named(standing, alloc, label.global, name.as_bytes())

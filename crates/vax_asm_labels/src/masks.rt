@@ -3,7 +3,7 @@
 ghost use Rattle.std.specs.Prelude.{◌≡◌, ◌<◌, ◌^◌, All, Some, length, true};
 ghost use Rattle.vax_lex.specs.Tokens.{IsTokenOf};
 ghost use Rattle.vax_asm_labels.specs.Masks.{byte_behind, key_of, mask_as, mask_at, mask_named, mask_stated};
-ghost use Rattle.vax_asm_first.specs.View.{site_seen, States};
+ghost use Rattle.vax_asm_first.specs.View.{site_seen, States, KeepsMark};
 ghost use Rattle.vax_asm_statement.specs.Items.{name_alone};
 ghost use Rattle.vax_asm_statement.specs.Tokens.{is_name_token};
 
@@ -46,8 +46,9 @@ fn state_mask(
     requires entry { IsTokenOf site.line.now.value.items entry }
     requires name { is_name_token entry ≡ true }
     requires tokens { All (IsTokenOf site.line.now.value.items) tokens.now }
-    ensures { States (mask_at (site_seen site.entry) entry tokens.now)
+    ensures stands { States (mask_at (site_seen site.entry) entry tokens.now)
         result standing.old standing.new }
+    ensures mark { KeepsMark standing.old standing.new }
 {
     let name = kept(site.line, entry);
     if is_place(name.as_bytes()) {
@@ -74,9 +75,10 @@ fn state_named(
 ) -> Result<(), Refused>
     requires entry { All (IsTokenOf site.line.now.value.items) entry.now }
     requires tokens { All (IsTokenOf site.line.now.value.items) tokens.now }
-    ensures { States (mask_named (site_seen site.entry)
+    ensures stands { States (mask_named (site_seen site.entry)
         (name_alone site.entry.line.now.value.items entry.now) tokens.now)
         result standing.old standing.new }
+    ensures mark { KeepsMark standing.old standing.new }
 {
     match name_alone(site.line, entry) {
         Some(entry) => state_mask(standing, alloc, site, entry, tokens),
@@ -100,8 +102,9 @@ pub fn mask(
 ) -> Result<(), Refused>
     requires tokens { All (IsTokenOf line.now.value.items) operands.now }
     requires few { length operands.now < 2 ^ 32 }
-    ensures { States (mask_stated origin line.now.value.items operands.now)
+    ensures stands { States (mask_stated origin line.now.value.items operands.now)
         result standing.old standing.new }
+    ensures mark { KeepsMark standing.old standing.new }
 {
     let Ok(found) = parts(alloc, operands) else {
         return Err(Refused::NoMemory);

@@ -3,7 +3,7 @@
 ghost use Rattle.std.specs.Prelude.{All};
 ghost use Rattle.vax_lex.specs.Tokens.{IsTokenOf};
 ghost use Rattle.vax_asm_labels.specs.Numbers.{number_stated};
-ghost use Rattle.vax_asm_first.specs.View.{States};
+ghost use Rattle.vax_asm_first.specs.View.{States, KeepsMark};
 
 use crate::assignments::assignment;
 use std::alloc::Global;
@@ -26,8 +26,9 @@ pub fn assign_number(
     number: u64,
 ) -> Result<(), Refused>
     requires { All (IsTokenOf line.now.value.items) name.now }
-    ensures { States (number_stated origin line.now.value.items name.now number)
+    ensures stands { States (number_stated origin line.now.value.items name.now number)
         result standing.old standing.new }
+    ensures mark { KeepsMark standing.old standing.new }
 {
     let Some(name) = name_alone(line, name) else {
         return Err(Refused::Fault(FaultKind::Form));

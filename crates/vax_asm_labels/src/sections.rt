@@ -5,7 +5,7 @@ ghost use Rattle.vax_lex.specs.KeptNames.{kept_name};
 ghost use Rattle.vax_lex.specs.Tokens.{IsTokenOf};
 ghost use Rattle.vax_asm_labels.specs.Naming.{attribute_at, attribute_by, attributes_from, further_attribute, further_word, nothing_said, power_alone, says_nothing, section_chosen, section_stated, unnamed_chosen, with_absolute, with_align, with_attribute, with_overlaid, with_write};
 ghost use Rattle.vax_asm_labels.specs.Within.{Within};
-ghost use Rattle.vax_asm_first.specs.View.{States};
+ghost use Rattle.vax_asm_first.specs.View.{States, KeepsMark};
 ghost use Rattle.vax_dialect.specs.Differences.{has_further_directives, has_unnamed_psect};
 ghost use Rattle.vax_asm_statement.specs.Directives.{attribute_of};
 ghost use Rattle.vax_asm_statement.specs.Items.{name_alone};
@@ -203,7 +203,7 @@ fn attributes_of(dialect: Dialect, line: &[u8], operands: &[&[Token]]) -> Option
 }
 
 /// Chooses the section with a name.
-#[tactic(auto, using(crate::proofs::Selecting::select_stands, crate::proofs::Selecting::select_fails))]
+#[tactic(auto, using(crate::proofs::Selecting::select_stands, crate::proofs::Selecting::select_fails), unfolding(vax_asm_first::specs::View::marked_standing))]
 pub(crate) fn choose_named(
     standing: &mut Standing,
     alloc: Global,
@@ -211,8 +211,9 @@ pub(crate) fn choose_named(
     attributes: Attributes,
 ) -> Result<(), Refused>
     requires { Within attributes }
-    ensures { States (section_chosen (Some name.now) (Some attributes))
+    ensures stands { States (section_chosen (Some name.now) (Some attributes))
         result standing.old standing.new }
+    ensures mark { KeepsMark standing.old standing.new }
 {
     match standing.layout.select(alloc, name, attributes) {
         Ok(()) => {}
@@ -235,8 +236,9 @@ fn choose(
     attributes: Option<Attributes>,
 ) -> Result<(), Refused>
     requires { IfSome attributes Within }
-    ensures { States (section_chosen (option_map kept_name name) attributes)
+    ensures stands { States (section_chosen (option_map kept_name name) attributes)
         result standing.old standing.new }
+    ensures mark { KeepsMark standing.old standing.new }
 {
     let Some(name) = name else {
         return Err(Refused::Fault(FaultKind::Form));
@@ -249,8 +251,9 @@ fn choose(
 
 /// `.PSECT` alone: the section without a name, where the dialect goes on in it.
 fn choose_unnamed(standing: &mut Standing, alloc: Global) -> Result<(), Refused>
-    ensures { States (λ s. unnamed_chosen (has_unnamed_psect s.dialect) s)
+    ensures stands { States (λ s. unnamed_chosen (has_unnamed_psect s.dialect) s)
         result standing.old standing.new }
+    ensures mark { KeepsMark standing.old standing.new }
 {
     if !standing.dialect.has_unnamed_psect() {
         return Err(Refused::Fault(FaultKind::Count));
@@ -273,7 +276,9 @@ pub fn section(
 ) -> Result<(), Refused>
     requires tokens { All (IsTokenOf line.now) operands.now }
     requires few { length operands.now < 2 ^ 32 }
-    ensures { States (section_stated line.now operands.now) result standing.old standing.new }
+    ensures stands { States (section_stated line.now operands.now)
+        result standing.old standing.new }
+    ensures mark { KeepsMark standing.old standing.new }
 {
     let Ok(found) = parts(alloc, operands) else {
         return Err(Refused::NoMemory);

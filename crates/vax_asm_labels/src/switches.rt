@@ -3,7 +3,7 @@
 ghost use Rattle.std.specs.Prelude.{◌≡◌, ◌<◌, ◌^◌, All, length};
 ghost use Rattle.vax_lex.specs.Tokens.{IsTokenOf};
 ghost use Rattle.vax_asm_labels.specs.Functions.{function_at, function_of, functions_stated, is_called, is_idle, switched};
-ghost use Rattle.vax_asm_first.specs.View.{States};
+ghost use Rattle.vax_asm_first.specs.View.{States, KeepsMark};
 
 use crate::labels::next_block;
 use std::alloc::Global;
@@ -67,13 +67,15 @@ fn function_at(line: &[u8], tokens: &[Token]) -> Option<Function>
 }
 
 /// A function is enabled, or disabled.
+#[tactic(auto, unfolding(vax_asm_first::specs::View::marked_standing))]
 fn switch(
     standing: &mut Standing,
     alloc: Global,
     on: bool,
     function: Option<Function>,
 ) -> Result<(), Refused>
-    ensures { States (switched on function) result standing.old standing.new }
+    ensures stands { States (switched on function) result standing.old standing.new }
+    ensures mark { KeepsMark standing.old standing.new }
 {
     match function {
         Some(Function::Idle) => Ok(()),
@@ -82,6 +84,7 @@ fn switch(
             Ok(())
         }
         Some(Function::Absolute) => {
+            standing.unmark();
             standing.absolute = on;
             Ok(())
         }
@@ -89,6 +92,7 @@ fn switch(
             let Ok(()) = next_block(&mut standing.scope, alloc, !on) else {
                 return Err(Refused::NoMemory);
             };
+            standing.unmark();
             standing.keeps_block = on;
             Ok(())
         }
@@ -110,7 +114,9 @@ pub fn functions(
 ) -> Result<(), Refused>
     requires tokens { All (IsTokenOf line.now) operands.now }
     requires few { length operands.now < 2 ^ 32 }
-    ensures { States (functions_stated on line.now operands.now) result standing.old standing.new }
+    ensures stands { States (functions_stated on line.now operands.now)
+        result standing.old standing.new }
+    ensures mark { KeepsMark standing.old standing.new }
 {
     if operands.is_empty() {
         return Err(Refused::Fault(FaultKind::Count));

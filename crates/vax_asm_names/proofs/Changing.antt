@@ -18,7 +18,7 @@ use Rattle.vax_asm_names.specs.declared.types.Linkage.{Linkage}
 use Rattle.vax_asm_names.specs.declared.types.Local.{Local}
 use Rattle.vax_asm_names.specs.declared.types.Name.{Name}
 
-abbrev Block : Type 0
+abbrev pub Block : Type 0
 Block = BTreeMap (Vec ℕ Global) Local
 
 pub name_added : (xs : List Name) (n : Name) → map name_of (xs ++ n ∷ []) ≡ map name_of xs ++ name_of n ∷ []

@@ -1,3 +1,5 @@
 pub mod ByName
+pub mod Content
+pub mod Journal
 pub mod Names
 pub mod View

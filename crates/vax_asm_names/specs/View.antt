@@ -1,19 +1,25 @@
 -- What the table means.
-use Rattle.std.specs.Prelude.{◌≡◌, ◌∷◌, ℕ, List, map, Result, Ok, Err}
-use Rattle.vax_asm_names.specs.ByName.{by_name}
+use Rattle.std.specs.Prelude.{◌≡◌, ℕ, List, Option, Some, Result, Ok, Err}
+pub use Rattle.vax_asm_names.specs.Content.{name_of}
+use Rattle.vax_asm_names.specs.Content.{names_in}
+use Rattle.vax_asm_names.specs.Journal.{marked_in}
 use Rattle.vax_asm_names.specs.Names as specs
 use Rattle.vax_asm_names.specs.declared.types.Duplicate.{Duplicate}
 use Rattle.vax_asm_names.specs.declared.types.LabelError.{LabelError}
 use Rattle.vax_asm_names.specs.declared.types.LabelError.TheVariants as errors
 use Rattle.vax_asm_names.specs.declared.types.Local.{Local}
-use Rattle.vax_asm_names.specs.declared.types.Name.{Name}
 use Rattle.vax_asm_names.specs.declared.types.NameTable.{NameTable}
 
-abbrev pub name_of : Name → specs.Name
-name_of n = record { text = n.text.items; definition = n.definition; defined_by = n.defined_by; global = n.global; external = n.external; weak = n.weak }
-
 abbrev pub names_of : NameTable → specs.Names
-names_of t = record { numbers = by_name t.numbers; all = map name_of t.names.items; blocks = by_name t.masks ∷ by_name t.first_block ∷ map by_name t.further_blocks.items; block = t.block; assumes_external = t.assumes_external }
+names_of t = names_in t.content
+
+-- what the names were at the mark, if there is one
+abbrev pub marked_names : NameTable → Option specs.Names
+marked_names t = marked_in t.journal (names_of t)
+
+-- The mark, if there still is one, is the same as before.
+abbrev pub KeepsMark : (old new : NameTable) → Type 0
+KeepsMark old new = (m : specs.Names) → marked_names new ≡ Some m → marked_names old ≡ Some m
 
 -- a name becomes another, or is as before
 abbrev pub Becomes : Result Unit Duplicate → specs.Name → specs.Name → Result specs.Name Duplicate → Type 0

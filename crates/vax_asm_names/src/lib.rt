@@ -6,6 +6,7 @@
 //! which has its number from then on.
 #![tactic(auto)]
 
+mod journal;
 mod table;
 mod types;
 

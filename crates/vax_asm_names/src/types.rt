@@ -1,9 +1,13 @@
 // What the table of names is built of.
 
-ghost use Rattle.std.specs.Prelude.{◌<◌, ◌≤◌, ◌+◌, ℕ, List, length};
+ghost use Rattle.std.specs.Prelude.{◌≡◌, ◌<◌, ◌≤◌, ◌+◌, ℕ, List, Some, length};
 ghost use Rattle.std.specs.Option.{ForSome};
 ghost use Rattle.vax_asm_names.specs.ByName.{by_name};
+ghost use Rattle.vax_asm_names.specs.Content.{names_in};
+ghost use Rattle.vax_asm_names.specs.Journal.{IsSound, marked_in};
+ghost use Rattle.vax_asm_names.specs.Names.{Names};
 
+use crate::journal::Journal;
 use std::collections::BTreeMap;
 use thiserror::Error;
 
@@ -64,9 +68,9 @@ pub enum LabelError {
     NoMemory,
 }
 
-/// The names of a module so far, in the order in which they first appeared, and the local labels of each block.
+/// What a table of names holds.
 #[derive(Drop)]
-pub struct NameTable {
+pub struct Content {
     pub(crate) numbers: BTreeMap<Vec<u8>, usize>,
     pub(crate) names: Vec<Name>,
     /// The masks of entries, as local labels of a block that no statement is in.
@@ -78,7 +82,19 @@ pub struct NameTable {
     pub(crate) block: usize,
     /// Whether another module may define a name that appears from here on.
     pub(crate) assumes_external: bool,
-    pub ghost in_range: { (text : List ℕ) → ForSome (by_name numbers text)
-        (λ i. i < length names.items) },
-    pub ghost in_block: { block ≤ length further_blocks.items + 1 },
+}
+
+/// The names of a module so far, in the order in which they first appeared, and the local labels of each block.
+///
+/// A table can have a mark, to which it goes back. What can't be undone drops the mark.
+#[derive(Drop)]
+pub struct NameTable {
+    pub(crate) content: Content,
+    /// What has changed since the mark.
+    pub(crate) journal: Journal,
+    pub ghost in_range: { (text : List ℕ) → ForSome (by_name content.numbers text)
+        (λ i. i < length content.names.items) },
+    pub ghost in_block: { content.block ≤ length content.further_blocks.items + 1 },
+    pub ghost sound_at_mark: { (m : Names) → marked_in journal (names_in content) ≡ Some m
+        → IsSound m },
 }

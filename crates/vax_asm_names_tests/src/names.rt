@@ -89,19 +89,58 @@ fn keeps_local_labels_in_their_block(rt: HostRuntime) -> Result<(), Fail> {
     assert!(rt; table.label_local(alloc, b"10$", 6)?.definition == 6);
     // The first block goes on, and what it gets stays in it.
     assert!(rt; table.block() == 2);
-    table.go_back(1);
+    table.resume_block(1);
     assert!(rt; table.block() == 1);
     assert!(rt; table.use_local(alloc, b"10$", 7)?.definition == 3);
     assert!(rt; table.label_local(alloc, b"30$", 7)?.definition == 7);
-    table.go_back(2);
+    table.resume_block(2);
     assert!(rt; table.use_local(alloc, b"10$", 8)?.definition == 6);
     assert!(rt; table.local(b"30$") == None);
     // The block of the masks is another one.
-    table.go_back(0);
+    table.resume_block(0);
     assert!(rt; table.local(b"10$") == None);
     assert!(rt; table.label_local(alloc, b"F", 9)?.definition == 9);
-    table.go_back(1);
+    table.resume_block(1);
     assert!(rt; table.local(b"F") == None);
     assert!(rt; table.local(b"30$").is_some());
+    Ok(())
+}
+
+#[test]
+fn goes_back_to_a_mark(rt: HostRuntime) -> Result<(), Fail> {
+    let alloc = rt.alloc();
+    let mut table = NameTable::new(alloc);
+    table.add(alloc, b"X", 0)?;
+    table.mark();
+    table.add(alloc, b"Y", 1)?;
+    table.assign(0, 2)?;
+    table.assign(0, 2)?;
+    table.link(0, Linkage::Weak);
+    table.begin_block(alloc)?;
+    assert!(rt; table.is_marked());
+    assert!(rt; table.go_back());
+    assert!(rt; table.names().len() == 1);
+    assert!(rt; table.number(b"Y") == None);
+    assert!(rt; table.names()[0].definition == 0);
+    assert!(rt; table.names()[0].defined_by == DefinedBy::Nothing);
+    assert!(rt; !table.names()[0].weak);
+    assert!(rt; table.block() == 1);
+    // The mark is gone.
+    assert!(rt; !table.go_back());
+    Ok(())
+}
+
+#[test]
+fn drops_a_mark_that_it_can_not_go_back_to(rt: HostRuntime) -> Result<(), Fail> {
+    let alloc = rt.alloc();
+    let mut table = NameTable::new(alloc);
+    table.mark();
+    table.use_local(alloc, b"10$", 0)?;
+    assert!(rt; !table.is_marked());
+    table.add(alloc, b"X", 1)?;
+    table.mark();
+    table.add(alloc, b"X", 2)?;
+    assert!(rt; !table.go_back());
+    assert!(rt; table.number(b"X") == Some(1));
     Ok(())
 }

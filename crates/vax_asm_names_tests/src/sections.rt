@@ -145,3 +145,36 @@ fn counts_in_an_overlaid_section(rt: HostRuntime) -> Result<(), Fail> {
     assert!(rt; layout.select(alloc, b"DATA", overlaid) == Err(Refusal::Conflict));
     Ok(())
 }
+
+#[test]
+fn goes_back_to_a_mark(rt: HostRuntime) -> Result<(), Fail> {
+    let alloc = rt.alloc();
+    let mut layout: Layout<u8> = Layout::new(alloc)?;
+    layout.put(1, Piece::Zeros(1))?;
+    layout.mark();
+    layout.put(3, Piece::Bytes(b"abc".to_vec(alloc)?))?;
+    layout.put(1, Piece::Field(7))?;
+    assert!(rt; layout.go_back());
+    assert!(rt; layout.current().size == 1);
+    assert!(rt; layout.current().pieces.len() == 1);
+    // The mark is gone.
+    assert!(rt; !layout.go_back());
+    // A section that only counts goes back to its place.
+    let absolute = Attributes {
+        align: None,
+        write: None,
+        absolute: Some(true),
+        overlaid: None,
+    };
+    layout.select(alloc, b"OFFSETS", absolute)?;
+    layout.put(4, Piece::Zeros(4))?;
+    layout.mark();
+    layout.put(2, Piece::Zeros(2))?;
+    assert!(rt; layout.go_back());
+    assert!(rt; layout.current().counter == Some(4));
+    // What can't be undone drops the mark.
+    layout.mark();
+    layout.align(2)?;
+    assert!(rt; !layout.is_marked());
+    Ok(())
+}

@@ -63,3 +63,31 @@ fn a_circle_has_no_value(rt: HostRuntime) -> Result<(), Fail> {
     assert!(rt; definitions.evaluate(&use_of_it) == Err(ExprError::Unknown));
     Ok(())
 }
+
+#[test]
+fn definitions_go_back_to_a_mark(rt: HostRuntime) -> Result<(), Fail> {
+    let alloc = rt.alloc();
+    let mut definitions = Definitions::new(alloc);
+    definitions.open(alloc)?;
+    definitions.open(alloc)?;
+    definitions.write(alloc, 0, expression(alloc, b"Y+1", b"Y", 1)?)?;
+    assert!(rt; !definitions.go_back());
+    definitions.mark();
+    definitions.open(alloc)?;
+    definitions.write(alloc, 2, expression(alloc, b"X*2", b"X", 0)?)?;
+    definitions.give(alloc, 1, Value::Absolute(4))?;
+    assert!(rt; definitions.value(2) == Some(Value::Absolute(10)));
+    assert!(rt; definitions.is_marked() && definitions.go_back());
+    assert!(rt; !definitions.is_marked());
+    // what was there before is there, and nothing else has a value
+    assert!(rt; definitions.count() == 2);
+    assert!(rt; definitions.value(0) == None);
+    assert!(rt; definitions.value(1) == None);
+    definitions.give(alloc, 1, Value::Absolute(6))?;
+    assert!(rt; definitions.value(0) == Some(Value::Absolute(7)));
+    // no mark is left after it is removed
+    definitions.mark();
+    definitions.unmark();
+    assert!(rt; !definitions.go_back());
+    Ok(())
+}

@@ -1,6 +1,7 @@
 pub mod Closing
 pub mod Binding
 pub mod Naming
+pub mod Marking
 pub mod Masking
 pub mod Range
 pub mod Seen

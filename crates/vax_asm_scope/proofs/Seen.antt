@@ -5,9 +5,9 @@ use Rattle.std.proofs.Math.Seq.{get_or-append_seam}
 use Rattle.std.specs.Global.{Vec}
 use Rattle.std.specs.Prelude.{slice_index_or, slice_set}
 use Rattle.vax_asm_names.specs.Names as specs
-use Rattle.vax_asm_names.specs.Names.{changed, labelled}
+use Rattle.vax_asm_names.specs.Names.{assigned, changed, labelled}
 use Rattle.vax_asm_names.specs.View.{name_of}
-use Rattle.vax_asm_names.specs.declared.types.DefinedBy.TheVariants.{Label}
+use Rattle.vax_asm_names.specs.declared.types.DefinedBy.TheVariants.{Assignment, Label}
 use Rattle.vax_asm_names.specs.declared.types.Duplicate.{Duplicate}
 use Rattle.vax_asm_names.specs.declared.types.Name.{Name}
 use Rattle.vax_asm_scope.specs.Scope.{Scope, entry, entry_by, is_missing}
@@ -58,3 +58,21 @@ pub second_label : (text : List ℕ) (s : Scope) (e : Duplicate)
     → changed (entry text s).number (entry text s).scope.names (labelled (specs.name_at (entry text s).scope.names.all (entry text s).number)) ≡ Err e
     → (entry text s).scope ≡ s
 second_label text s e h = appeared_by text s (s.names.numbers text) e h
+
+-- a name that is a label has appeared
+label_by : (text : List ℕ) (s : Scope) (o : Option ℕ) (fresh : ℕ) (e : Duplicate)
+    → changed (entry_by text s o).number (entry_by text s o).scope.names (assigned fresh (specs.name_at (entry_by text s o).scope.names.all (entry_by text s o).number)) ≡ Err e
+    → (entry_by text s o).scope ≡ s
+label_by text s (Some i) fresh e h = refl
+label_by text s None fresh e h =
+    let first = specs.first_seen s.names.assumes_external text (length s.sources) in
+    let last : specs.name_at (s.names.all ++ first ∷ []) (length s.names.all) ≡ first = get_or-append_seam s.names.all first [] (specs.first_seen true [] 0) in
+    let names = specs.with_name text (length s.sources) s.names in
+    let is : Ok (specs.with_change (length s.names.all) names (record first { defined_by = Assignment })) ≡ Err e =
+    ap (λ (n : specs.Name). changed (length s.names.all) names (assigned fresh n)) (sym last) ∙ h in
+    cc
+
+pub label_assigned : (text : List ℕ) (s : Scope) (fresh : ℕ) (e : Duplicate)
+    → changed (entry text s).number (entry text s).scope.names (assigned fresh (specs.name_at (entry text s).scope.names.all (entry text s).number)) ≡ Err e
+    → (entry text s).scope ≡ s
+label_assigned text s fresh e h = label_by text s (s.names.numbers text) fresh e h

@@ -76,8 +76,9 @@ pub(crate) fn add_meaning(
     Ok(())
 }
 
+#[tactic(auto, unfolding(crate::specs::Kept::marked_scope))]
 impl Scope {
-    ghost use Rattle.vax_asm_scope.specs.Kept.{scope_of};
+    ghost use Rattle.vax_asm_scope.specs.Kept.{scope_of, KeepsMark};
     ghost use Rattle.vax_asm_scope.specs.Masks.{mask_labelled, mask_meant};
     ghost use Rattle.vax_asm_scope.specs.View.{Defines};
 
@@ -85,13 +86,14 @@ impl Scope {
     ///
     /// [`LabelError::Duplicate`] where it has one already, [`LabelError::NoMemory`] where memory is refused. Nothing of use is left then.
     pub fn label_mask(&mut self, alloc: Global, entry: &[u8], mask: Value) -> Result<(), LabelError>
-        ensures { Defines result
+        ensures scope { Defines result
             (scope_of self.new) (mask_labelled entry.now mask (scope_of self.old)) }
+        ensures mark { KeepsMark self.old self.new }
     {
         let block = self.block();
-        self.go_back(alloc, MASKS);
+        self.resume_block(alloc, MASKS);
         self.label_local(alloc, entry, mask)?;
-        self.go_back(alloc, block);
+        self.resume_block(alloc, block);
         Ok(())
     }
 
@@ -101,11 +103,12 @@ impl Scope {
             (λ d. d ≡ (mask_meant entry.now (scope_of self.old)).definition) }
         ensures scope { OnOk result
             (scope_of self.new ≡ (mask_meant entry.now (scope_of self.old)).scope) }
+        ensures mark { KeepsMark self.old self.new }
     {
         let block = self.block();
-        self.go_back(alloc, MASKS);
+        self.resume_block(alloc, MASKS);
         let definition = self.local_definition(alloc, entry)?;
-        self.go_back(alloc, block);
+        self.resume_block(alloc, block);
         Ok(definition)
     }
 }

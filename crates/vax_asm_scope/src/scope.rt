@@ -1,8 +1,8 @@
 // The scope.
 
 ghost use Rattle.vax_asm_scope.specs.Scope.{IsInRange};
-ghost use Rattle.vax_asm_scope.specs.View.{scope_in};
-ghost use Rattle.vax_asm_scope.specs.RangeProps.{range_prop};
+ghost use Rattle.vax_asm_scope.specs.View.{scope_in, IsMarkInRange};
+ghost use Rattle.vax_asm_scope.specs.RangeProps.{range_prop, mark_range_prop};
 
 use crate::masks::{add_meaning, masked_tokens, shared};
 use crate::tables::Tables;
@@ -18,19 +18,24 @@ use vax_space::NoMemory;
 /// The names and the definitions so far.
 ///
 /// Where memory is refused, nothing of them is left: whoever assembles a source ends there.
+///
+/// [`Scope::mark`] sets a mark, and [`Scope::go_back`] makes the names and the definitions what they were there. A call that can't be
+/// undone removes the mark.
 #[derive(Drop)]
 pub struct Scope {
     tables: Tables,
     ghost in_range: { IsInRange (scope_in tables) } by { range_prop (scope_in tables) },
+    ghost mark_in_range: { IsMarkInRange tables } by { mark_range_prop tables },
 }
 
+#[tactic(auto, unfolding(crate::specs::Kept::marked_scope))]
 impl Scope {
-    ghost use Rattle.std.specs.Prelude.{◌≡◌, All, IfOk, OnOk, length, map};
+    ghost use Rattle.std.specs.Prelude.{◌≡◌, All, IfOk, OnOk, Some, None, is_some, true, length, map};
     ghost use Rattle.vax_lex.specs.Grammar.{symbols_of, spelling, Expression as Tree};
     ghost use Rattle.vax_lex.specs.Tokens.{IsTokenOf};
     ghost use Rattle.vax_lex.specs.declared.token.TokenKind.TheVariants.{Name as NameKind};
     ghost use Rattle.vax_asm_names.specs.View.{name_of};
-    ghost use Rattle.vax_asm_scope.specs.Kept.{scope_of};
+    ghost use Rattle.vax_asm_scope.specs.Kept.{scope_of, marked_scope, KeepsMark};
     ghost use Rattle.vax_asm_scope.specs.Known.{known};
     ghost use Rattle.vax_asm_scope.specs.Masks.{local_meant, masked};
     ghost use Rattle.vax_asm_scope.specs.Scope.{nothing, entry, definition_at, definition_of, bound, labelled, assigned, labelled_locally, begun_block, in_block, linked, assuming, misses, external_names, closed};
@@ -42,13 +47,52 @@ impl Scope {
     ghost use Rattle.vax_asm_values.specs.View.{written_of};
 
     /// No names and no definitions.
-    #[tactic(auto, using(crate::proofs::Range::nothing_in))]
+    #[tactic(auto, using(crate::proofs::Range::nothing_in), unfolding(crate::specs::Kept::marked_scope))]
     pub fn new(alloc: Global) -> Scope
-        ensures { scope_of result ≡ nothing }
+        ensures scope { scope_of result ≡ nothing }
+        ensures marked { marked_scope result ≡ None }
     {
         Scope {
             tables: Tables::new(alloc),
         }
+    }
+
+    /// Sets a mark here, to which [`Scope::go_back`] goes back.
+    pub fn mark(&mut self)
+        ensures same { scope_of self.new ≡ scope_of self.old }
+        ensures marked { marked_scope self.new ≡ Some (scope_of self.old) }
+    {
+        self.tables.mark();
+    }
+
+    /// Removes the mark.
+    pub fn unmark(&mut self)
+        ensures same { scope_of self.new ≡ scope_of self.old }
+        ensures marked { marked_scope self.new ≡ None }
+    {
+        self.tables.unmark();
+    }
+
+    /// Whether there is a mark.
+    pub fn is_marked(&self) -> bool
+        ensures { result ≡ is_some (marked_scope self.now) }
+    {
+        self.tables.is_marked()
+    }
+
+    /// Makes the names and the definitions what they were at the mark, and removes it. False if there is no mark; nothing of them is
+    /// left then.
+    pub fn go_back(&mut self, alloc: Global) -> bool
+        ensures back { result ≡ true → marked_scope self.old ≡ Some (scope_of self.new) }
+        ensures marked { marked_scope self.new ≡ None }
+    {
+        let Scope { tables, .. } = mem::replace(self, Scope::new(alloc));
+        let mut tables = tables;
+        if !tables.go_back() {
+            return false;
+        }
+        *self = Scope { tables };
+        true
     }
 
     /// The names so far, in the order in which they first appeared.
@@ -106,6 +150,7 @@ impl Scope {
             ≡ definition_at (entry text.now (scope_of self.old))) }
         ensures scope { OnOk result (scope_of self.new
             ≡ (entry text.now (scope_of self.old)).scope) }
+        ensures mark { KeepsMark self.old self.new }
     {
         let Scope { tables, .. } = mem::replace(self, Scope::new(alloc));
         let mut tables = tables;
@@ -116,7 +161,6 @@ impl Scope {
     }
 
     /// An expression of a line in a dialect, whose names mean what they mean where it stands. `here` is what `.` is worth.
-    #[tactic(auto, using(crate::proofs::Spelling::tree_names))]
     pub fn expression(
         &mut self,
         alloc: Global,
@@ -141,6 +185,7 @@ impl Scope {
         // They mean definitions that there are.
         ensures means { IfOk result
             (λ e. Means (length (scope_of self.new).sources) (Worked (written_of e))) }
+        ensures mark { KeepsMark self.old self.new }
     {
         let Scope { tables, .. } = mem::replace(self, Scope::new(alloc));
         let mut tables = tables;
@@ -171,6 +216,7 @@ impl Scope {
             (bound here (symbols_of line.now.value.items tokens.now) (scope_of self.old)).names) }
         ensures scope { OnOk result (scope_of self.new
             ≡ (bound here (symbols_of line.now.value.items tokens.now) (scope_of self.old)).scope) }
+        ensures mark { KeepsMark self.old self.new }
     {
         let Scope { tables, .. } = mem::replace(self, Scope::new(alloc));
         let mut tables = tables;
@@ -188,6 +234,7 @@ impl Scope {
             (λ d. d ≡ (local_meant text.now (scope_of self.old)).definition) }
         ensures scope { OnOk result
             (scope_of self.new ≡ (local_meant text.now (scope_of self.old)).scope) }
+        ensures mark { KeepsMark self.old self.new }
     {
         let Scope { tables, .. } = mem::replace(self, Scope::new(alloc));
         let mut tables = tables;
@@ -201,8 +248,9 @@ impl Scope {
     /// [`LabelError::Duplicate`] where the name has a definition, and all is as before then; [`LabelError::NoMemory`] where
     /// memory is refused.
     pub fn label(&mut self, alloc: Global, text: &[u8], value: Value) -> Result<(), LabelError>
-        ensures { Labels result
+        ensures labels { Labels result
             (scope_of self.old) (scope_of self.new) (labelled text.now value (scope_of self.old)) }
+        ensures mark { KeepsMark self.old self.new }
     {
         let Scope { tables, .. } = mem::replace(self, Scope::new(alloc));
         let mut tables = tables;
@@ -233,12 +281,21 @@ impl Scope {
         ensures scope { Defines result
             (scope_of self.new) (assigned text.now (written_of expression) (scope_of self.old)) }
         ensures definition { IfOk result (λ d. d ≡ definition_of text.now (scope_of self.new)) }
+        ensures mark { KeepsMark self.old self.new }
     {
         let Scope { tables, .. } = mem::replace(self, Scope::new(alloc));
         let mut tables = tables;
-        let definition = tables.assign(alloc, text, expression)?;
-        *self = Scope { tables };
-        Ok(definition)
+        match tables.assign(alloc, text, expression) {
+            Ok(definition) => {
+                *self = Scope { tables };
+                Ok(definition)
+            }
+            Err(LabelError::Duplicate) => {
+                *self = Scope { tables };
+                Err(LabelError::Duplicate)
+            }
+            Err(LabelError::NoMemory) => Err(LabelError::NoMemory),
+        }
     }
 
     /// A local label is defined in its block.
@@ -251,8 +308,9 @@ impl Scope {
         text: &[u8],
         value: Value,
     ) -> Result<(), LabelError>
-        ensures { Labels result (scope_of self.old)
+        ensures labels { Labels result (scope_of self.old)
             (scope_of self.new) (labelled_locally text.now value (scope_of self.old)) }
+        ensures mark { KeepsMark self.old self.new }
     {
         let Scope { tables, .. } = mem::replace(self, Scope::new(alloc));
         let mut tables = tables;
@@ -271,7 +329,8 @@ impl Scope {
 
     /// A block of local labels begins.
     pub fn begin_block(&mut self, alloc: Global) -> Result<(), NoMemory>
-        ensures { OnOk result (scope_of self.new ≡ begun_block (scope_of self.old)) }
+        ensures scope { OnOk result (scope_of self.new ≡ begun_block (scope_of self.old)) }
+        ensures mark { KeepsMark self.old self.new }
     {
         let Scope { tables, .. } = mem::replace(self, Scope::new(alloc));
         let mut tables = tables;
@@ -288,18 +347,21 @@ impl Scope {
     }
 
     /// The block of local labels with this number goes on, if there is one.
-    pub fn go_back(&mut self, alloc: Global, block: usize)
-        ensures { scope_of self.new ≡ in_block block (scope_of self.old) }
+    pub fn resume_block(&mut self, alloc: Global, block: usize)
+        ensures scope { scope_of self.new ≡ in_block block (scope_of self.old) }
+        ensures mark { KeepsMark self.old self.new }
     {
         let Scope { tables, .. } = mem::replace(self, Scope::new(alloc));
         let mut tables = tables;
-        tables.names.go_back(block);
+        tables.names.resume_block(block);
         *self = Scope { tables };
     }
 
     /// The module says of a name, which is no local label, that other modules may use it, or that one of them may define it.
     pub fn link(&mut self, alloc: Global, text: &[u8], linkage: Linkage) -> Result<(), NoMemory>
-        ensures { OnOk result (scope_of self.new ≡ linked linkage text.now (scope_of self.old)) }
+        ensures scope { OnOk result
+            (scope_of self.new ≡ linked linkage text.now (scope_of self.old)) }
+        ensures mark { KeepsMark self.old self.new }
     {
         let Scope { tables, .. } = mem::replace(self, Scope::new(alloc));
         let mut tables = tables;
@@ -311,7 +373,8 @@ impl Scope {
     /// Whether another module may define a name that appears from here on, where nothing more is said of it. At the start
     /// it may.
     pub fn assume_external(&mut self, alloc: Global, assumes: bool)
-        ensures { scope_of self.new ≡ assuming assumes (scope_of self.old) }
+        ensures scope { scope_of self.new ≡ assuming assumes (scope_of self.old) }
+        ensures mark { KeepsMark self.old self.new }
     {
         let Scope { tables, .. } = mem::replace(self, Scope::new(alloc));
         let mut tables = tables;
@@ -332,6 +395,7 @@ impl Scope {
         ensures externals { IfOk result (λ names. texts_of names
             ≡ external_names (scope_of self.old).names.all) }
         ensures scope { OnOk result (scope_of self.new ≡ closed (scope_of self.old)) }
+        ensures mark { KeepsMark self.old self.new }
     {
         let Scope { tables, .. } = mem::replace(self, Scope::new(alloc));
         let mut tables = tables;

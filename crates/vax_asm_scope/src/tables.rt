@@ -135,20 +135,55 @@ impl Tables {
     ghost use Rattle.vax_asm_scope.specs.PlaceView.{place_of};
     ghost use Rattle.vax_asm_scope.specs.Scope.{nothing, entry, definition_of, mean, mean_here, mean_local, bind, bind_all, bound, labelled, assigned, kept, labelled_locally, opened_if_fresh, linked, misses, closed};
     ghost use Rattle.vax_asm_scope.specs.Used.{used_by};
-    ghost use Rattle.vax_asm_scope.specs.View.{scope_in, bound_in, Defines, Labels};
+    ghost use Rattle.vax_asm_scope.specs.View.{scope_in, bound_in, marked_in, KeepsMark, Labels};
     ghost use Rattle.vax_asm_values.specs.Values.{Means, Worked};
     ghost use Rattle.vax_asm_values.specs.View.{written_of};
-    ghost use Rattle.std.specs.Prelude.{Result};
+    ghost use Rattle.std.specs.Prelude.{Result, Some, None, is_some, true};
     ghost use Rattle.vax_lex.specs.declared.value.Value.{Value};
     ghost use Rattle.vax_lex.specs.declared.value.ExprError.{ExprError};
 
     pub(crate) fn new(alloc: Global) -> Tables
-        ensures { scope_in result ≡ nothing }
+        ensures scope { scope_in result ≡ nothing }
+        ensures marked { marked_in result ≡ None }
     {
         Tables {
             names: NameTable::new(alloc),
             definitions: Definitions::new(alloc),
         }
+    }
+
+    /// Sets a mark here.
+    pub(crate) fn mark(&mut self)
+        ensures same { scope_in self.new ≡ scope_in self.old }
+        ensures marked { marked_in self.new ≡ Some (scope_in self.old) }
+    {
+        self.names.mark();
+        self.definitions.mark();
+    }
+
+    /// Removes the mark.
+    pub(crate) fn unmark(&mut self)
+        ensures same { scope_in self.new ≡ scope_in self.old }
+        ensures marked { marked_in self.new ≡ None }
+    {
+        self.names.unmark();
+        self.definitions.unmark();
+    }
+
+    /// Whether there is a mark.
+    pub(crate) fn is_marked(&self) -> bool
+        ensures { result ≡ is_some (marked_in self.now) }
+    {
+        self.names.is_marked() && self.definitions.is_marked()
+    }
+
+    /// Makes the names and the definitions what they were at the mark, and removes it. False if there is no mark; nothing of use
+    /// is left then.
+    pub(crate) fn go_back(&mut self) -> bool
+        ensures back { result ≡ true → marked_in self.old ≡ Some (scope_in self.new) }
+        ensures marked { marked_in self.new ≡ None }
+    {
+        self.names.go_back() && self.definitions.go_back()
     }
 
     /// The number of a name. One that appears for the first time gets a definition that is to come.
@@ -157,6 +192,7 @@ impl Tables {
         ensures scope { OnOk result (scope_in self.new
             ≡ (entry text.now (scope_in self.old)).scope) }
         ensures within { IfOk result (λ i. i < length (scope_in self.new).names.all) }
+        ensures mark { KeepsMark self.old self.new }
     {
         if let Some(number) = self.names.number(text) {
             return Ok(number);
@@ -202,6 +238,7 @@ impl Tables {
             (locals_of (scope_in self.old).names text.now)).definition) }
         ensures scope { OnOk result (scope_in self.new ≡ (mean_local text.now (scope_in self.old)
             (locals_of (scope_in self.old).names text.now)).scope) }
+        ensures mark { KeepsMark self.old self.new }
     {
         if let Some(local) = self.names.local(text) {
             return Ok(local.definition);
@@ -217,6 +254,7 @@ impl Tables {
             ≡ (mean_here here (scope_in self.old)).definition) }
         ensures scope { OnOk result (scope_in self.new
             ≡ (mean_here here (scope_in self.old)).scope) }
+        ensures mark { KeepsMark self.old self.new }
     {
         let definition = self.definitions.open(alloc)?;
         self.definitions.give(alloc, definition, here)?;
@@ -229,6 +267,7 @@ impl Tables {
             ≡ (mean here text.now (scope_in self.old)).definition) }
         ensures scope { OnOk result (scope_in self.new
             ≡ (mean here text.now (scope_in self.old)).scope) }
+        ensures mark { KeepsMark self.old self.new }
     {
         if is_dot(text) {
             return self.place_meaning(alloc, here);
@@ -249,8 +288,9 @@ impl Tables {
         text: &[u8],
         here: Value,
     ) -> Result<(), NoMemory>
-        ensures { OnOk result (bound_in found.new self.new
+        ensures bound { OnOk result (bound_in found.new self.new
             ≡ bind here text.now (bound_in found.old self.old)) }
+        ensures mark { KeepsMark self.old self.new }
     {
         let definition = self.meaning(alloc, text, here)?;
         let name = text.to_vec(alloc).map_err(|_| NoMemory)?;
@@ -271,9 +311,10 @@ impl Tables {
         here: Value,
     ) -> Result<(), NoMemory>
         requires { IsTokenOf line.now token }
-        ensures { OnOk result (bound_in found.new self.new
+        ensures bound { OnOk result (bound_in found.new self.new
             ≡ bind_all here (bound_in found.old self.old) (used_by (place_of place)
             (symbol_of line.now token))) }
+        ensures mark { KeepsMark self.old self.new }
     {
         match (place, token.kind) {
             (Place::Term, TokenKind::Name) => {
@@ -295,8 +336,9 @@ impl Tables {
         here: Value,
     ) -> Result<Vec<Meaning>, NoMemory>
         requires { All (IsTokenOf line.now) tokens.now }
-        ensures { IfOk result (λ found. bound_in found self.new
+        ensures bound { IfOk result (λ found. bound_in found self.new
             ≡ bound here (symbols_of line.now tokens.now) (scope_in self.old)) }
+        ensures mark { KeepsMark self.old self.new }
     {
         let mut found = Vec::new(alloc);
         let mut place = Place::Term;
@@ -315,8 +357,9 @@ impl Tables {
         text: &[u8],
         value: Value,
     ) -> Result<(), LabelError>
-        ensures { Labels result
+        ensures labels { Labels result
             (scope_in self.old) (scope_in self.new) (labelled text.now value (scope_in self.old)) }
+        ensures mark { KeepsMark self.old self.new }
     {
         let Ok(number) = self.entry(alloc, text) else {
             return Err(LabelError::NoMemory);
@@ -340,10 +383,11 @@ impl Tables {
         expression: Expression,
     ) -> Result<(), NoMemory>
         requires { Means (length (scope_in self.old).sources) (Worked (written_of expression)) }
-        ensures { OnOk result (scope_in self.new ≡ record (scope_in self.old) {
+        ensures scope { OnOk result (scope_in self.new ≡ record (scope_in self.old) {
           sources = with_source definition (kept (written_of expression) value)
               (scope_in self.old).sources;
         }) }
+        ensures mark { KeepsMark self.old self.new }
     {
         match value {
             Ok(value) => self.definitions.give(alloc, definition, value)?,
@@ -352,8 +396,8 @@ impl Tables {
         Ok(())
     }
 
-    /// An assignment defines a name. It tells which definition the name then means.
-    #[tactic(auto, using(crate::proofs::Seen::within_changed, crate::proofs::Seen::means_more))]
+    /// An assignment defines a name. It tells which definition the name then means. Where the name is a label, all is as before.
+    #[tactic(auto, using(crate::proofs::Seen::within_changed, crate::proofs::Seen::means_more, crate::proofs::Seen::label_assigned))]
     pub(crate) fn assign(
         &mut self,
         alloc: Global,
@@ -361,9 +405,10 @@ impl Tables {
         expression: Expression,
     ) -> Result<usize, LabelError>
         requires { Means (length (scope_in self.old).sources) (Worked (written_of expression)) }
-        ensures scope { Defines result
+        ensures scope { Labels result (scope_in self.old)
             (scope_in self.new) (assigned text.now (written_of expression) (scope_in self.old)) }
         ensures definition { IfOk result (λ d. d ≡ definition_of text.now (scope_in self.new)) }
+        ensures mark { KeepsMark self.old self.new }
     {
         let Ok(number) = self.entry(alloc, text) else {
             return Err(LabelError::NoMemory);
@@ -390,8 +435,9 @@ impl Tables {
         text: &[u8],
         value: Value,
     ) -> Result<(), LabelError>
-        ensures { Labels result (scope_in self.old)
+        ensures labels { Labels result (scope_in self.old)
             (scope_in self.new) (labelled_locally text.now value (scope_in self.old)) }
+        ensures mark { KeepsMark self.old self.new }
     {
         let fresh = self.definitions.count();
         let local = self.names.label_local(alloc, text, fresh)?;
@@ -406,8 +452,9 @@ impl Tables {
 
     /// The next definition is to come, if this is its number.
     fn open_if_fresh(&mut self, alloc: Global, definition: usize) -> Result<(), NoMemory>
-        ensures { OnOk result (scope_in self.new ≡ record (scope_in self.old)
+        ensures scope { OnOk result (scope_in self.new ≡ record (scope_in self.old)
             { sources = opened_if_fresh definition (scope_in self.old).sources }) }
+        ensures mark { KeepsMark self.old self.new }
     {
         if definition == self.definitions.count() {
             self.definitions.open(alloc)?;
@@ -422,7 +469,9 @@ impl Tables {
         text: &[u8],
         linkage: Linkage,
     ) -> Result<(), NoMemory>
-        ensures { OnOk result (scope_in self.new ≡ linked linkage text.now (scope_in self.old)) }
+        ensures scope { OnOk result
+            (scope_in self.new ≡ linked linkage text.now (scope_in self.old)) }
+        ensures mark { KeepsMark self.old self.new }
     {
         let number = self.entry(alloc, text)?;
         self.names.link(number, linkage);
@@ -454,7 +503,9 @@ impl Tables {
         ensures externals { IfOk result (λ names. texts_of names
             ≡ external_names (scope_in self.old).names.all) }
         ensures scope { OnOk result (scope_in self.new ≡ closed (scope_in self.old)) }
+        ensures mark { KeepsMark self.old self.new }
     {
+        self.names.unmark();
         close_all(&mut self.definitions, alloc, self.names.names())
     }
 }

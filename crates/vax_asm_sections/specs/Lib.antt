@@ -1,3 +1,4 @@
+pub mod Journal
 pub mod Layout
 pub mod Numbers
 pub mod View

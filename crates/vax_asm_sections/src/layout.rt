@@ -1,10 +1,12 @@
 // The sections of a module while it is assembled.
 
-ghost use Rattle.std.specs.Prelude.{◌≡◌, ◌<◌, ◌≤◌, ◌+◌, ◌^◌, IfOk, OnOk, OnErr, IfSome, None, Some, length, map, true};
+ghost use Rattle.std.specs.Prelude.{◌≡◌, ◌<◌, ◌≤◌, ◌+◌, ◌^◌, IfOk, OnOk, OnErr, IfSome, None, Some, is_some, length, map, true, false};
 ghost use Rattle.vax_asm_names.specs.ByName.{by_name, with_entry};
 ghost use Rattle.vax_asm_sections.specs.Layout.{gap, alignment, differs, says_otherwise, overlays_otherwise, conflicts, exceeds, longer, place_in, raised, refuses, set_back, start_of, is_absolute, only_counts, at_first, current_of, with_part, with_raised, with_set_back, put, aligned, numbered, made, gone_back, begun, selected};
-ghost use Rattle.vax_asm_sections.specs.View.{part_of, section_of, sections_of, Leaves};
+ghost use Rattle.vax_asm_sections.specs.Journal.{shorter, undo, NotesIn};
+ghost use Rattle.vax_asm_sections.specs.View.{marked_sections, part_of, section_of, sections_of, KeepsMark, Leaves};
 
+use crate::journal::{Journal, Put};
 use crate::types::{Attributes, Building, Layout, Piece, Refusal};
 use std::alloc::{AllocError, AllocFailed, Global};
 use std::collections::BTreeMap;
@@ -151,6 +153,20 @@ impl<F> Building<F> {
         self.counter = Some(to);
     }
 
+    /// What was put last is taken away.
+    fn shorten(&mut self, put: Put)
+    where
+        F: Drop,
+        ensures back { section_of self.new ≡ shorter put (section_of self.old) }
+        ensures named { self.new.name ≡ self.old.name }
+    {
+        if put.counter.is_none() {
+            self.pieces.pop();
+        }
+        self.size = put.size;
+        self.counter = put.counter;
+    }
+
     fn raise(&mut self, align: u8)
         requires { align ≤ 9 }
         ensures { section_of self.new ≡ raised align (section_of self.old) }
@@ -200,12 +216,26 @@ fn add_number(
     Ok(())
 }
 
+/// Notes what is to be put into a section, where all have this size.
+fn note_put<F>(journal: &mut Journal, section: &Building<F>, total: u32)
+    ensures { NotesIn (section_of section.now) total journal.old journal.new }
+{
+    if journal.marked {
+        journal.note(Put {
+            size: section.size,
+            counter: section.counter,
+            total,
+        });
+    }
+}
+
 impl<F> Layout<F> {
     /// The section without a name alone.
     pub fn new(alloc: Global) -> Result<Layout<F>, AllocError>
     where
         F: Drop,
-        ensures { IfOk result (λ l. sections_of l ≡ at_first) }
+        ensures sections { IfOk result (λ l. sections_of l ≡ at_first) }
+        ensures unmarked { IfOk result (λ l. marked_sections l ≡ None) }
     {
         let unnamed = Building {
             name: Vec::new(alloc),
@@ -224,7 +254,63 @@ impl<F> Layout<F> {
             numbers,
             current: 0,
             total: 0,
+            journal: Journal::new(alloc),
         })
+    }
+
+    /// The sections get a mark as they are now, in place of an earlier one.
+    pub fn mark(&mut self)
+        ensures same { sections_of self.new ≡ sections_of self.old }
+        ensures marked { marked_sections self.new ≡ Some (sections_of self.old) }
+    {
+        self.journal.mark();
+    }
+
+    /// Drops the mark.
+    pub fn unmark(&mut self)
+        ensures same { sections_of self.new ≡ sections_of self.old }
+        ensures marked { marked_sections self.new ≡ None }
+    {
+        self.journal.unmark();
+    }
+
+    /// Whether there is a mark.
+    pub fn is_marked(&self) -> bool
+        ensures { result ≡ is_some (marked_sections self.now) }
+    {
+        self.journal.marked
+    }
+
+    /// Goes back to the mark, which is dropped then. The time is that of what was put since.
+    ///
+    /// False if there is no mark. The sections are then as before.
+    pub fn go_back(&mut self) -> bool
+    where
+        F: Drop,
+        ensures marked { result ≡ is_some (marked_sections self.old) }
+        ensures back { result ≡ true → marked_sections self.old ≡ Some (sections_of self.new) }
+        ensures kept { result ≡ false → sections_of self.new ≡ sections_of self.old }
+        ensures unmarked { marked_sections self.new ≡ None }
+    {
+        if !self.journal.marked {
+            return false;
+        }
+        self.journal.marked = false;
+        while let Some(put) = self.journal.puts.pop() {
+            self.undo(put);
+        }
+        true
+    }
+
+    /// What was put last is taken away.
+    fn undo(&mut self, put: Put)
+    where
+        F: Drop,
+        ensures sections { sections_of self.new ≡ undo put (sections_of self.old) }
+        ensures journal { self.new.journal ≡ self.old.journal }
+    {
+        self.sections[self.current].shorten(put);
+        self.total = put.total;
     }
 
     /// The section that the next statement goes into.
@@ -255,10 +341,15 @@ impl<F> Layout<F> {
         F: Drop,
         requires section { place_in (current_of (sections_of self.old)) + more ≤ 1048576 }
         requires total { self.old.total + more < 2 ^ 32 }
-        ensures { OnOk result (sections_of self.new
+        ensures sections { OnOk result (sections_of self.new
             ≡ with_part more (part_of piece) (sections_of self.old)) }
+        ensures mark { KeepsMark self.old self.new }
     {
-        self.sections[self.current].add(more, piece)?;
+        note_put(&mut self.journal, &self.sections[self.current], self.total);
+        if let Err(refused) = self.sections[self.current].add(more, piece) {
+            self.journal.unmark();
+            return Err(refused);
+        }
         self.total += more;
         Ok(())
     }
@@ -266,8 +357,10 @@ impl<F> Layout<F> {
     #[tactic(auto, using(crate::proofs::Changing::alignment_raised))]
     fn raise(&mut self, align: u8)
         requires { align ≤ 9 }
-        ensures { sections_of self.new ≡ with_raised align (sections_of self.old) }
+        ensures sections { sections_of self.new ≡ with_raised align (sections_of self.old) }
+        ensures mark { KeepsMark self.old self.new }
     {
+        self.journal.unmark();
         self.sections[self.current].raise(align);
     }
 
@@ -279,8 +372,9 @@ impl<F> Layout<F> {
     pub fn put(&mut self, more: u32, piece: Piece<F>) -> Result<(), Refusal>
     where
         F: Drop,
-        ensures { Leaves
+        ensures sections { Leaves
             result self.old self.new (put more (part_of piece) (sections_of self.old)) }
+        ensures mark { KeepsMark self.old self.new }
     {
         if self.current().refuses(&piece) {
             return Err(Refusal::Absolute);
@@ -297,8 +391,10 @@ impl<F> Layout<F> {
     pub fn set_back(&mut self, to: u32)
         requires absolute { is_absolute (current_of (sections_of self.old)) ≡ true }
         requires before { to ≤ place_in (current_of (sections_of self.old)) }
-        ensures { sections_of self.new ≡ with_set_back to (sections_of self.old) }
+        ensures sections { sections_of self.new ≡ with_set_back to (sections_of self.old) }
+        ensures mark { KeepsMark self.old self.new }
     {
+        self.journal.unmark();
         let back = self.current().place() - to;
         self.sections[self.current].set_back(to);
         self.total = self.total.saturating_sub(back);
@@ -311,7 +407,9 @@ impl<F> Layout<F> {
     where
         F: Drop,
         requires { align ≤ 9 }
-        ensures { Leaves result self.old self.new (aligned align (sections_of self.old)) }
+        ensures sections { Leaves
+            result self.old self.new (aligned align (sections_of self.old)) }
+        ensures mark { KeepsMark self.old self.new }
     {
         let more = gap(self.current().place(), align);
         self.put(more, Piece::Zeros(more))?;
@@ -327,15 +425,18 @@ impl<F> Layout<F> {
         self.numbers.get(name).copied()
     }
 
-    /// Goes back to a section.
+    /// Goes on in a section that has begun.
     #[tactic(auto, using(crate::proofs::Changing::chosen_seen))]
-    fn go_back(&mut self, i: usize, attributes: Attributes) -> Result<(), Refusal>
+    fn resume(&mut self, i: usize, attributes: Attributes) -> Result<(), Refusal>
         requires { i < length self.old.sections.items }
-        ensures { Leaves result self.old self.new (gone_back attributes (sections_of self.old) i) }
+        ensures sections { Leaves
+            result self.old self.new (gone_back attributes (sections_of self.old) i) }
+        ensures mark { KeepsMark self.old self.new }
     {
         if conflicts(attributes, &self.sections[i]) {
             return Err(Refusal::Conflict);
         }
+        self.journal.unmark();
         self.current = i;
         Ok(())
     }
@@ -347,9 +448,11 @@ impl<F> Layout<F> {
         F: Drop,
         requires align { IfSome attributes.align (λ k. k ≤ 9) }
         requires new { numbered 0 name.now (sections_of self.old).all ≡ None }
-        ensures { Leaves
+        ensures sections { Leaves
             result self.old self.new (begun name.now attributes (sections_of self.old) None) }
+        ensures mark { KeepsMark self.old self.new }
     {
+        self.journal.unmark();
         let number = self.sections.len();
         let copy = copied(alloc, name).map_err(|_| Refusal::NoMemory)?;
         let section = made(alloc, copy, attributes);
@@ -376,11 +479,12 @@ impl<F> Layout<F> {
     where
         F: Drop,
         requires { IfSome attributes.align (λ k. k ≤ 9) }
-        ensures { Leaves
+        ensures sections { Leaves
             result self.old self.new (selected name.now attributes (sections_of self.old)) }
+        ensures mark { KeepsMark self.old self.new }
     {
         match self.number_of(name) {
-            Some(i) => self.go_back(i, attributes),
+            Some(i) => self.resume(i, attributes),
             None => self.begin(alloc, name, attributes),
         }
     }

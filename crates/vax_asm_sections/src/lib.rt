@@ -2,6 +2,7 @@
 //! they are aligned (VAX MACRO and Instruction Set Reference Manual, `.PSECT` and `.ALIGN`).
 #![tactic(auto)]
 
+mod journal;
 mod layout;
 mod types;
 

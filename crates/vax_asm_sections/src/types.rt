@@ -4,6 +4,7 @@ ghost use Rattle.std.specs.Prelude.{◌≡◌, ◌<◌, ◌≤◌, ℕ, List, le
 ghost use Rattle.vax_asm_names.specs.ByName.{by_name};
 ghost use Rattle.vax_asm_sections.specs.Numbers.{placed};
 
+use crate::journal::Journal;
 use std::collections::BTreeMap;
 use thiserror::Error;
 
@@ -68,6 +69,8 @@ pub enum Refusal {
 }
 
 /// The sections of a module while it is assembled, with the one that has no name first.
+///
+/// They can have a mark, to which they go back. Whatever does other than put something into the current section drops it.
 #[derive(Drop)]
 pub struct Layout<F> {
     pub(crate) sections: Vec<Building<F>>,
@@ -75,6 +78,8 @@ pub struct Layout<F> {
     pub(crate) numbers: BTreeMap<Vec<u8>, usize>,
     pub(crate) current: usize,
     pub(crate) total: u32,
+    /// What was put since the mark.
+    pub(crate) journal: Journal,
     pub ghost in_range: { current < length sections.items },
     pub ghost known: { (name : List ℕ) → by_name numbers name
         ≡ placed 0 name (map (λ section. section.name.items) sections.items) },

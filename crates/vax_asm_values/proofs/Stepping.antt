@@ -196,6 +196,14 @@ watches_grown ws vs j ToCome grown w = w
 watches_grown ws vs j (Given v) grown w = w
 watches_grown ws vs j (Worked e) grown w = λ k d h. grown (slice_index_or e.names k d).definition j (w k d h)
 
+pub settled_grown : (sources : List Source) (values : List (Option Value)) (ws vs : List (List ℕ)) → Grown ws vs → Settled sources values ws → Settled sources values vs
+settled_grown sources values ws vs grown s = record {
+  closed = s.closed;
+  consistent = s.consistent;
+  backed = s.backed;
+  watched = λ i. watches_grown ws vs i (source_at sources i) grown (s.watched i);
+}
+
 pub watched_more : (sources : List Source) (ws vs : List (List ℕ)) (i : ℕ) (new : Source) → i < length sources → ((j : ℕ) → Watches ws j (source_at sources j)) → Grown ws vs → Watches vs i new
     → (j : ℕ) → Watches vs j (source_at (slice_set sources i new) j)
 watched_more sources ws vs i new within watched grown here j =

@@ -1,5 +1,6 @@
 pub mod Certain
 pub mod Definitions
+pub mod Marks
 pub mod SettledProps
 pub mod ToCome
 pub mod TokenProps

@@ -1,6 +1,6 @@
 // How values come to be known.
 
-ghost use Rattle.std.specs.Prelude.{◌≡◌, ◌<◌, ◌≤◌, ◌+◌, ◌++◌, ◌∷◌, [], All, OnOk, length, map, true, slice_set, option_map, nat_lt, ◌&&◌};
+ghost use Rattle.std.specs.Prelude.{◌≡◌, ◌<◌, ◌≤◌, ◌+◌, ◌++◌, ◌∷◌, [], All, OnOk, length, map, true, false, slice_set, option_map, nat_lt, ◌&&◌};
 ghost use Rattle.std.specs.Str.{bytes_eq};
 ghost use Rattle.vax_asm_values.specs.Certain.{certain};
 ghost use Rattle.vax_asm_values.specs.Values.{named, worth, source_at, value_under, ToCome as to_come};
@@ -8,7 +8,9 @@ ghost use Rattle.vax_asm_values.specs.View.{meaning_of, written_of, source_of, s
 ghost use Rattle.vax_asm_values.specs.Waiting.{known, listed, waiters, Watches, Settled, Standing, Grown, weight};
 ghost use Rattle.vax_asm_values.specs.Values.{Means, expression_in, is_to_come};
 ghost use Rattle.vax_asm_values.specs.ToCome.{names_to_come};
+ghost use Rattle.vax_asm_values.specs.Marks.{KeepsMark, source_before, value_before, wait_before, marked_sources_in, marked_values_in, marked_waiting_in};
 
+use crate::journal::{Change, Journal};
 use crate::types::{Board, Expression, Meaning, Source};
 use std::alloc::Global;
 use vax_dialect::Dialect;
@@ -124,11 +126,16 @@ impl Board {
         ensures sources { sources_in result.sources ≡ [] }
         ensures values { result.values.items ≡ [] }
         ensures waiting { lists_in result.waiting ≡ [] }
+        ensures marked { result.journal.marked ≡ false }
     {
         Board {
             sources: Vec::new(alloc),
             values: Vec::new(alloc),
             waiting: Vec::new(alloc),
+            journal: Journal {
+                marked: false,
+                changes: Vec::new(alloc),
+            },
         }
     }
 
@@ -237,6 +244,7 @@ impl Board {
         ensures sources { self.new.sources ≡ self.old.sources }
         ensures waiting { self.new.waiting ≡ self.old.waiting }
         ensures values { length self.new.values.items ≡ length self.old.values.items }
+        ensures mark { KeepsMark self.old self.new }
     {
         if number >= self.sources.len() {
             return Ok(());
@@ -248,12 +256,13 @@ impl Board {
             return Ok(());
         };
         self.values[number] = Some(value);
+        self.journal.note(Change::Known(number));
         add_all(work, &self.waiting[number])?;
         Ok(())
     }
 
     /// Looks at a definition, and at all that it makes known.
-    #[tactic(auto, using(crate::proofs::Stepping::at_rest))]
+    #[tactic(auto, using(crate::proofs::Stepping::at_rest, crate::proofs::Marks::kept_itself, crate::proofs::Marks::kept_through))]
     fn settle(&mut self, alloc: Global, first: usize) -> Result<(), NoMemory>
         requires standing { Standing (sources_in self.old.sources)
             self.old.values.items (lists_in self.old.waiting) (first ∷ []) }
@@ -264,6 +273,7 @@ impl Board {
         ensures sources { self.new.sources ≡ self.old.sources }
         ensures waiting { self.new.waiting ≡ self.old.waiting }
         ensures values { length self.new.values.items ≡ length self.old.values.items }
+        ensures mark { KeepsMark self.old self.new }
     {
         let mut work = Vec::new(alloc);
         add_all(&mut work, &[first])?;
@@ -295,9 +305,11 @@ impl Board {
             ≡ length self.new.sources.items) }
         ensures waiting { OnOk result (length self.new.waiting.items
             ≡ length self.new.sources.items) }
+        ensures mark { OnOk result (KeepsMark self.old self.new) }
     {
         wait(&mut self.waiting, &source, number)?;
         self.sources[number] = source;
+        self.journal.note(Change::Defined(number));
         self.settle(alloc, number)?;
         Ok(())
     }
@@ -316,10 +328,53 @@ impl Board {
             ≡ length self.new.sources.items) }
         ensures waiting { OnOk result (length self.new.waiting.items
             ≡ length self.new.sources.items) }
+        ensures mark { OnOk result (KeepsMark self.old self.new) }
     {
         add_last(&mut self.sources, Source::ToCome)?;
         add_last(&mut self.values, None)?;
         add_last(&mut self.waiting, Vec::new(alloc))?;
+        self.journal.note(Change::Opened);
         Ok(())
+    }
+
+    /// Undoes a change.
+    fn undo(&mut self, change: Change)
+        ensures sources { sources_in self.new.sources
+            ≡ source_before change (sources_in self.old.sources) }
+        ensures values { self.new.values.items ≡ value_before change self.old.values.items }
+        ensures waiting { lists_in self.new.waiting
+            ≡ wait_before change (lists_in self.old.waiting) }
+        ensures journal { self.new.journal ≡ self.old.journal }
+    {
+        match change {
+            Change::Opened => {
+                self.sources.pop();
+                self.values.pop();
+                self.waiting.pop();
+            }
+            Change::Defined(number) => {
+                if number < self.sources.len() {
+                    self.sources[number] = Source::ToCome;
+                }
+            }
+            Change::Known(number) => {
+                if number < self.values.len() {
+                    self.values[number] = None;
+                }
+            }
+        }
+    }
+
+    /// Undoes all changes since the mark, the last one first.
+    pub(crate) fn go_back(&mut self)
+        ensures sources { sources_in self.new.sources ≡ marked_sources_in self.old }
+        ensures values { self.new.values.items ≡ marked_values_in self.old }
+        ensures waiting { lists_in self.new.waiting ≡ marked_waiting_in self.old }
+        ensures marked { self.new.journal.marked ≡ false }
+    {
+        'changes: while let Some(change) = self.journal.changes.pop() {
+            self.undo(change);
+        }
+        self.journal.marked = false;
     }
 }

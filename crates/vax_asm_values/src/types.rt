@@ -5,6 +5,7 @@ ghost use Rattle.vax_lex.specs.Grammar.{symbols_of};
 ghost use Rattle.vax_lex.specs.Tokens.{IsTokenOf};
 ghost use Rattle.vax_asm_values.specs.TokenProps.{tokens_prop};
 
+use crate::journal::Journal;
 use std::rc::Rc;
 use vax_dialect::Dialect;
 use vax_lex::{Token, Value};
@@ -70,10 +71,12 @@ pub(crate) enum Source {
     Worked(Expression),
 }
 
-/// Definitions, their values so far, and for each the definitions that have it in their expressions.
+/// Definitions, their values so far, for each the definitions that have it in their expressions, and the changes since the
+/// mark.
 #[derive(Drop)]
 pub(crate) struct Board {
     pub(crate) sources: Vec<Source>,
     pub(crate) values: Vec<Option<Value>>,
     pub(crate) waiting: Vec<Vec<usize>>,
+    pub(crate) journal: Journal,
 }

@@ -12,6 +12,6 @@ name_of-requires c =
     part_at c.args.line.now (parts c.args.operands.now) c.deref-part-items.result.now c.loop-part.part-index _
     (ap (map now) c.deref-part-items.ensures.value ∙ c.in-Ok.ensures.parts) (c.in-Ok.ensures.within c.args.line.now c.requires.tokens) c.loop-part-test.true
 
-pub returns-in-None : goal.returns-in-None
-returns-in-None c =
-    no_name c.args.linkage c.args.line.now _ _ c.deref-part-items.result.now c.loop-part.part-index _ c.loop-part-test.true c.in-None.ensures c.loop-part.invariant
+pub returns-in-None-clause-scope : goal.returns-in-None-clause-scope
+returns-in-None-clause-scope c =
+    no_name c.args.linkage c.args.line.now _ _ c.deref-part-items.result.now c.loop-part.part-index _ c.loop-part-test.true c.in-None.ensures c.loop-part.invariant.names

@@ -6,4 +6,4 @@ use Rattle.vax_asm_names.proofs.types.NameTable.number.Goals as goal
 
 pub returns-in-Some-clause-within : goal.returns-in-Some-clause-within
 returns-in-Some-clause-within c =
-    in_table (by_name c.args.self.now.numbers) c.args.self.now.names.items c.args.text.now _ c.args.self.now.in_range (sym c.get.ensures.value ∙ ap option_copied c.in-Some.is)
+    in_table (by_name c.args.self.now.content.numbers) c.args.self.now.content.names.items c.args.text.now _ c.args.self.now.in_range (sym c.get.ensures.value ∙ ap option_copied c.in-Some.is)

@@ -1,13 +1,11 @@
-use Rattle.std.proofs.Common.{ap}
-use Rattle.vax_asm_names.specs.Names.{Names}
-use Rattle.vax_asm_names.specs.View.{names_of}
+use Rattle.std.proofs.Common.{◌∙◌, sym}
 use Rattle.vax_asm_scope.specs.View.{scope_in}
-use Rattle.vax_asm_values.specs.Definitions.{sources_of}
-use Rattle.vax_asm_scope.proofs.Range.{back_is_in}
 use Rattle.vax_asm_scope.proofs.scope.Scope.go_back.Goals as goal
 
 pub invariant_of-drop : goal.invariant_of-drop
 invariant_of-drop c =
     let before = c.replace-tables.result in
-    let sources = sources_of before.tables.definitions in
-    record { in_range = back_is_in c.args.block (scope_in before.tables) (record { names = names_of c.go_back.new.self; sources = sources }) before.in_range (ap (λ (n : Names). record { names = n; sources = sources }) c.go_back.ensures) }
+    record {
+      in_range = before.mark_in_range (scope_in c.go_back.new.self) (c.go_back.ensures.back cc);
+      mark_in_range = λ m h. absurd (cc (c.go_back.ensures.marked, h));
+    }

@@ -2,7 +2,13 @@ use Rattle.vax_asm_scope.specs.View.{scope_in}
 use Rattle.vax_asm_scope.proofs.Range.{label_in}
 use Rattle.vax_asm_scope.proofs.scope.Scope.label.Goals as goal
 
-pub invariant_of-drop : goal.invariant_of-drop
-invariant_of-drop c =
+pub invariant_of-drop-clause-in_range : goal.invariant_of-drop-clause-in_range
+invariant_of-drop-clause-in_range c =
     let before = c.replace-tables.result in
-    record { in_range = label_in c.args.text.now c.args.value (scope_in before.tables) (scope_in c.label.new.self) before.in_range c.in-Ok.ensures }
+    label_in c.args.text.now c.args.value (scope_in before.tables) (scope_in c.label.new.self) before.in_range c.in-Ok.ensures.labels
+
+pub invariant_of-drop-clause-mark_in_range : goal.invariant_of-drop-clause-mark_in_range
+invariant_of-drop-clause-mark_in_range c = λ m h. c.replace-tables.result.mark_in_range m (c.label.ensures.mark m h)
+
+pub invariant_of-drop-in-Err-Duplicate-clause-mark_in_range : goal.invariant_of-drop-in-Err-Duplicate-clause-mark_in_range
+invariant_of-drop-in-Err-Duplicate-clause-mark_in_range c = λ m h. c.replace-tables.result.mark_in_range m (c.label.ensures.mark m h)

@@ -1,8 +1,11 @@
-use Rattle.std.proofs.Common.{◌<◌, ◌∷◌, [], ◌∙◌, List, ap, sym, subst, length}
+use Rattle.std.proofs.Common.{◌<◌, ◌∷◌, [], ◌∙◌, ℕ, List, refl, ap, sym, subst, length}
 use Rattle.std.proofs.lemmas.List.{length-map, map-set}
 use Rattle.vax_asm_values.specs.Values as specs
 use Rattle.vax_asm_values.specs.View.{source_of, sources_in, lists_in}
 use Rattle.vax_asm_values.specs.Waiting.{Standing}
+use Rattle.std.specs.Global.{Vec}
+use Rattle.vax_asm_values.specs.declared.journal.Change.TheVariants.{Defined}
+use Rattle.vax_asm_values.proofs.Marks.{kept_through, noted, source_unset}
 use Rattle.vax_asm_values.proofs.Stepping.{come, watched_more}
 use Rattle.vax_asm_values.proofs.types.Board.define.Goals as goal
 
@@ -17,3 +20,11 @@ settle-requires-clause-standing c =
 
 pub returns-clause-sources : goal.returns-clause-sources
 returns-clause-sources c = ap sources_in c.settle.ensures.sources ∙ map-set source_of c.args.self.now.sources.items c.args.number c.args.source
+
+pub returns-clause-mark : goal.returns-clause-mark
+returns-clause-mark c =
+    let board = c.args.self.now in
+    let long = length-map board.waiting.items (λ (w : Vec ℕ). w.items) ∙ sym c.wait.ensures.length ∙ sym (length-map c.wait.new.waiting.items (λ (w : Vec ℕ). w.items)) in
+    kept_through board _ c.settle.new.self
+    (noted board _ (Defined c.args.number) c.note.ensures (source_unset board.sources.items c.args.number c.args.source c.requires.first) refl c.in_ok-wait.ensures.grown long)
+    c.settle.ensures.mark

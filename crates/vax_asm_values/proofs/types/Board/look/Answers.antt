@@ -1,7 +1,9 @@
-use Rattle.std.proofs.Common.{◌≡◌, ◌<◌, ◌++◌, ◌∙◌, ℕ, List, None, sym, ap, length, arith}
+use Rattle.std.proofs.Common.{◌≡◌, ◌<◌, ◌++◌, ◌∙◌, ℕ, List, None, refl, sym, ap, length, arith}
 use Rattle.std.proofs.lemmas.List.{length-map, length-append}
 use Rattle.vax_asm_values.specs.View.{source_of, sources_in, lists_in}
 use Rattle.vax_asm_values.specs.Waiting.{known, waiters}
+use Rattle.vax_asm_values.specs.declared.journal.Change.TheVariants.{Known}
+use Rattle.vax_asm_values.proofs.Marks.{noted, value_unset}
 use Rattle.vax_asm_values.proofs.Stepping.{looked_at, nothing_new, not_there, resolved, weight_less, unknown_at, waits_at}
 use Rattle.vax_asm_values.proofs.types.Board.look.Goals as goal
 
@@ -34,3 +36,15 @@ returns-clause-fewer c =
     let less = weight_less values lists c.args.number c.in-Some.value (omega (arith, within, c.requires.values)) unknown in
     let long = ap length more ∙ length-append c.args.work.now.items (waiters lists c.args.number) in
     omega (arith, less, long)
+
+pub returns-in_err-add_all-clause-mark : goal.returns-in_err-add_all-clause-mark
+returns-in_err-add_all-clause-mark c =
+    let values = c.args.self.now.values.items in
+    let unknown : known values c.args.number ≡ None = unknown_at values c.args.number c.index.result.now c.index.ensures (sym c.is_some.ensures ∙ c.if-is_some.false) in
+    noted c.args.self.now _ (Known c.args.number) c.note.ensures refl (value_unset values c.args.number c.in-Some.value unknown) (λ k j l. l) refl
+
+pub returns-clause-mark : goal.returns-clause-mark
+returns-clause-mark c =
+    let values = c.args.self.now.values.items in
+    let unknown : known values c.args.number ≡ None = unknown_at values c.args.number c.index.result.now c.index.ensures (sym c.is_some.ensures ∙ c.if-is_some.false) in
+    noted c.args.self.now _ (Known c.args.number) c.note.ensures refl (value_unset values c.args.number c.in-Some.value unknown) (λ k j l. l) refl

@@ -1,4 +1,5 @@
 use Rattle.std.proofs.Common.{◌≡◌, ◌+◌, length}
+use Rattle.vax_asm_values.specs.Marks.{KeepsMark}
 use Rattle.vax_asm_values.specs.View.{sources_in, lists_in}
 use Rattle.vax_asm_values.specs.Waiting.{Standing, weight}
 use Rattle.vax_asm_values.proofs.types.Board.settle.Given as goal
@@ -9,6 +10,7 @@ invariant-work l = record {
   sources : l.self.sources ≡ l.fn.self.sources;
   waiting : l.self.waiting ≡ l.fn.self.waiting;
   values : length l.self.values.items ≡ length l.fn.self.values.items;
+  mark : KeepsMark l.fn.self l.self;
 }
 
 abbrev pub decreases-work : goal.decreases-work
