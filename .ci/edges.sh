@@ -345,5 +345,21 @@ expect 'a record for a script' '3 vax: large long.rec' "$(answer console long.ma
 expect 'a record for an input' '3 vax: large long.rec' "$(answer run long.mar --input long.rec)"
 rm -f long.mar long.err long.rec each vax.rec vax.pag
 
+# ---- Many faults are reported in time ----
+
+# Each of these has 20,000 lines or more. A time that grows as the square of them would be minutes.
+in_time() { timeout 20 "$vax" check many.mar >out 2>err; echo "$?"; }
+{ for n in $(seq 10000); do echo "L$n: NOP"; done; for n in $(seq 200); do echo NOP; done; for n in $(seq 10000); do echo "BRB L$n"; done; } >many.mar
+expect 'branches out of range' 4 "$(in_time)"
+printf '.REPT 20000\nD=D+1\nD=D+1 NOP\n.ENDR\n' >many.mar
+expect 'an assignment with a fault after each' 4 "$(in_time)"
+printf 'D=0\n.REPT 20000\nD=D+1\nD=D+1 NOP\n.ENDR\n' >many.mar
+expect 'the same of a name that has a value' 4 "$(in_time)"
+printf '.REPT 20000\nX=X+1\n.ENDR\n' >many.mar
+expect 'a name that is defined by itself' 4 "$(in_time)"
+for n in $(seq 20000); do echo "R$n=R$((n % 20000 + 1))+0"; done >many.mar
+expect 'a ring of names' 4 "$(in_time)"
+rm -f many.mar
+
 echo "$passed passed, $failed failed"
 [ "$failed" -eq 0 ]

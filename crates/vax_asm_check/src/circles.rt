@@ -65,6 +65,29 @@ fn add_assignment(
     Ok(None)
 }
 
+/// The fault of one more assignment that leaves the steps as they were. Most lead nowhere back, which is seen without a walk.
+fn beside_assignment(
+    alloc: Global,
+    steps: &mut Steps,
+    assignment: &Assignment,
+) -> Result<Option<Fault>, NoMemory>
+    requires { IsIndexed steps.old }
+    ensures same { OnOk result (steps_in steps.new ≡ steps_in steps.old) }
+    ensures fault { IfOk result (λ o. cons_option o []
+        ≡ (if comes_back (steps_in steps.old ++ step_by (assignment_of assignment.now) ∷ [])
+        assignment.now.definition
+        then record { origin = assignment.now.origin; kind = Form } ∷ [] else [])) }
+    ensures indexed { OnOk result (IsIndexed steps.new) }
+{
+    let step = step(alloc, assignment)?;
+    if !steps.may_come_back(&step) {
+        return Ok(None);
+    }
+    let fault = add_assignment(alloc, steps, assignment)?;
+    steps.take_back();
+    Ok(fault)
+}
+
 /// The fault of the assignment that stands behind so many before, if there is one and it makes its name come back to itself. It is
 /// one of the steps from then on.
 pub(crate) fn circle_fault(
@@ -104,7 +127,5 @@ pub(crate) fn circle_beside(
         return Ok(None);
     }
     let last = &assignments[assignments.len() - 1];
-    let fault = add_assignment(alloc, steps, last)?;
-    steps.take_back();
-    Ok(fault)
+    beside_assignment(alloc, steps, last)
 }

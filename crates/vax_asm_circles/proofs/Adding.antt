@@ -1,6 +1,7 @@
 -- Steps that are one more, or one fewer.
 use Rattle.std.proofs.Common.{◌≡◌, ◌≤◌, ◌<◌, ◌+◌, ℕ, zero, suc, Bool, true, false, List, [], ◌∷◌, ◌++◌, length, Option, Some, None, refl, ap, sym, subst, ◌∙◌, arith, ⊎_elim, append-nil, append_assoc}
 use Rattle.std.proofs.lemmas.Bool.{or_cases, or_left, or_right, eqb-true, eq-eqb, false≢true, false_from_ne_true}
+use Rattle.std.proofs.lemmas.Bool.Decides.{nat_tests}
 use Rattle.std.proofs.lemmas.List.Folds.{list_any-append}
 use Rattle.std.specs.HashMap.{get}
 use Rattle.std.specs.Prelude.{Result, Ok, Err, OnOk, ◌||◌, ◌==◌, if◌then◌else◌, nat_eq, nat_lt, unwrap_or}
@@ -112,6 +113,18 @@ leads_awaited steps (suc n) k i e =
 -- a definition for which none waits doesn't come back
 pub none_back : (steps : List Step) (all : List ℕ) (i : ℕ) → ((k : ℕ) → among k (all_awaited steps) ≡ true → among k all ≡ true) → among i all ≡ false → comes_back steps i ≡ false
 none_back steps all i have none = false_from_ne_true (comes_back steps i) (λ e. false≢true (sym none ∙ have i (leads_awaited steps (size steps) i i e)))
+
+pub turned : (k : ℕ) (ks : List ℕ) → list_any (λ y. nat_eq y k) ks ≡ among k ks
+turned k [] = refl
+turned k (x ∷ ks) = let same : nat_eq x k ≡ nat_eq k x = grind (arith, nat_tests) in rw (same, turned k ks) refl
+
+-- nor does one for which neither those before it nor it waits
+pub apart_back : (steps : List Step) (s : Step) (all : List ℕ) → ((k : ℕ) → among k (all_awaited steps) ≡ true → among k all ≡ true) → among s.from all ≡ false → among s.from s.to ≡ false
+    → comes_back (steps ++ s ∷ []) s.from ≡ false
+apart_back steps s all have none own = false_from_ne_true (comes_back (steps ++ s ∷ []) s.from) (λ e.
+    ⊎_elim (λ before. false≢true (sym none ∙ have s.from before)) (λ here. false≢true (sym own ∙ here))
+    (or_cases (among s.from (all_awaited steps)) (among s.from s.to) (sym (list_any-append (nat_eq s.from) (all_awaited steps) s.to) ∙ sym (ap (among s.from) (awaited-one steps s))
+    ∙ leads_awaited (steps ++ s ∷ []) (size (steps ++ s ∷ [])) s.from s.from e)))
 
 -- ---- All together
 

@@ -1,6 +1,6 @@
 // Steps one behind another, and whether the last makes its definition come back to itself.
 
-ghost use Rattle.std.specs.Prelude.{◌≡◌, ◌==◌, ◌++◌, ◌∷◌, [], ℕ, IfOk, List, None, OnOk, Some, if◌then◌else◌, nat_eq};
+ghost use Rattle.std.specs.Prelude.{◌≡◌, ◌==◌, ◌++◌, ◌∷◌, [], ℕ, false, IfOk, List, None, OnOk, Some, if◌then◌else◌, nat_eq};
 ghost use Rattle.std.specs.HashMap.{get};
 ghost use Rattle.vax_asm_circles.specs.Circles as spec;
 ghost use Rattle.vax_asm_circles.specs.Growing.{IsIndexed, steps_in, without};
@@ -72,6 +72,17 @@ impl Steps {
             return Ok(false);
         }
         is_met(alloc, &self.places, &self.list, number)
+    }
+
+    /// Whether a step's definition may come back to itself by the steps so far and this one: another waits for it, or has waited, or it
+    /// waits for itself. False is exact.
+    #[tactic(auto, using(crate::proofs::Adding::apart_back))]
+    pub fn may_come_back(&self, step: &Step) -> bool
+        requires { IsIndexed self.now }
+        ensures { result ≡ false → spec.comes_back (steps_in self.now ++ step_of step.now ∷ [])
+            step.now.from ≡ false }
+    {
+        self.awaited.contains(&step.from) || step.to.contains(&step.from)
     }
 
     /// Takes back the last step.
