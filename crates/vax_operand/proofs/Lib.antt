@@ -1,3 +1,4 @@
 pub mod Values
 pub mod Everywhere
 pub mod Addresses
+pub mod Working

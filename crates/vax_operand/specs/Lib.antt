@@ -1,3 +1,5 @@
 pub mod Form
 pub mod Located
 pub mod Addressed
+pub mod Working
+pub mod Logged

@@ -9,6 +9,7 @@ mod access;
 mod memory;
 mod results;
 mod specifier;
+mod worker;
 
 pub use crate::access::{
     displacement_width, next_address, next_modified, next_place, next_target, next_value, store,
@@ -17,5 +18,6 @@ pub use crate::access::{
 pub use crate::memory::{check, fetch, is_allowed, read, read_in, write, write_in};
 pub use crate::results::{answer, push, set_codes, settle};
 pub use crate::specifier::{decode, extend, is_no_base, is_reserved, next, reaches_pc};
+pub use crate::worker::Worker;
 pub use vax_flat::{Cut, Flow, Operand};
 pub use vax_undo::CutShort;

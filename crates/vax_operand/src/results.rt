@@ -1,6 +1,7 @@
 //! What instructions do with their results: they are written or pushed, codes are set, and a trap may follow.
 ghost use Rattle.std.specs.Prelude.{◌≡◌, ◌^◌, ◌<◌, ◌≤◌, Ok};
 ghost use Rattle.vax_word.specs.Arithmetic.{bytes_of};
+ghost use Rattle.vax_flat.specs.Control.{jumped_if, looped};
 ghost use Rattle.vax_flat.specs.Operand.{IsPlace};
 ghost use Rattle.vax_flat.specs.Rows.{flow_of, settled, answered, pushed};
 ghost use Rattle.vax_flat.specs.State.{with_conditions, overflow_enabled};
@@ -86,4 +87,45 @@ pub fn push<P: Port>(txn: &mut Txn<P>, value: u32) -> Result<(), CutShort>
     write(txn, top, 4, value as u64)?;
     txn.set_reg(14, top);
     Ok(())
+}
+
+/// Lets control go on at the target, if a branch is taken.
+#[inline(always)]
+#[tactic(auto, unfolding(vax_flat::specs::Control::jumped_if))]
+fn jump_if<P: Port>(txn: &mut Txn<P>, taken: bool, target: u32)
+    requires { 1 ≤ room txn.old }
+    ensures exact { Updates P.view P.trail (jumped_if taken target) txn.old txn.new }
+    ensures keeps { Keeps P.view P.since 1 txn.old txn.new }
+{
+    if taken {
+        txn.set_reg(15, target);
+    }
+}
+
+/// Writes a loop's index, sets its codes but C, and lets control go on at the target or after the instruction.
+#[inline(always)]
+#[tactic(auto, unfolding(vax_flat::specs::Control::looped))]
+pub(crate) fn go_on<P: Port>(
+    txn: &mut Txn<P>,
+    size: Size,
+    place: Operand,
+    index: (u64, Codes),
+    taken: bool,
+    target: u32,
+) -> Result<Flow, CutShort>
+    requires place { IsPlace (bytes_of size) place }
+    requires fits { index.0 < 256 ^ bytes_of size }
+    requires room { 4 ≤ room txn.old }
+    ensures exact { Does P.view P.trail (looped size place index taken target)
+        result txn.old txn.new }
+    ensures keeps { Keeps P.view P.since 4 txn.old txn.new }
+{
+    let (value, codes) = index;
+    store(txn, size, place, value)?;
+    let codes = Codes {
+        c: txn.psl().codes().c,
+        ..codes
+    };
+    jump_if(txn, taken, target);
+    settle(txn, false, codes)
 }

@@ -6,3 +6,4 @@ pub mod Stays
 pub mod Steps
 pub mod Frames
 pub mod Opcodes
+pub mod Working

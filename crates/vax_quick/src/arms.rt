@@ -1,538 +1,320 @@
-//! The commonest moves, sums and tests, each with its operation and sizes as constants.
+//! The commonest moves, sums and tests, each with its opcode as a constant: the table's row is known where this is compiled.
 ghost use Rattle.vax_quick.specs.Made.{IsSeen, Leaves, MakesOrStays, computer, made_by};
 
-use crate::integer::{
-    by_one, clear, compare, extended_multiply, move_address, push_long, rotate, shift_by, test,
-    three, two, unary,
-};
+use crate::fast::{Fast, done};
 use crate::results::unless_made;
+use crate::step::act_by_table;
 use crate::window::Window;
-use vax_isa::{Binary, Narrow, Unary};
+use vax_isa::{Action, Integer, action};
 use vax_undo::Port;
-use vax_word::{Core, Size};
+use vax_word::Core;
+use vax_x_int::shapes;
 
-/// MOVZWL.
+/// A move or a conversion.
 #[inline(never)]
-#[tactic(auto, using(crate::proofs::Opcodes::at_3c))]
-pub(crate) fn zero_extend_word<P: Port>(core: &mut Core, port: &mut P, window: Window) -> Option<()>
-    requires window { IsSeen (P.view port.old) core.old window }
-    ensures exact { MakesOrStays (made_by 0x3C) result
-        (computer P.view core.old port.old) (computer P.view core.new port.new) }
-    ensures leaves { Leaves P.since core.old port.old core.new port.new }
-{
-    let aside = *core;
-    let made = unary(core, port, window, Unary::ZeroExtend, Size::W, Size::L);
-    unless_made(core, port, aside, made)
-}
-
-/// ASHL.
-#[inline(never)]
-#[tactic(auto, using(crate::proofs::Opcodes::at_78))]
-pub(crate) fn shift_long<P: Port>(core: &mut Core, port: &mut P, window: Window) -> Option<()>
-    requires window { IsSeen (P.view port.old) core.old window }
-    ensures exact { MakesOrStays (made_by 0x78) result
-        (computer P.view core.old port.old) (computer P.view core.new port.new) }
-    ensures leaves { Leaves P.since core.old port.old core.new port.new }
-{
-    let aside = *core;
-    let made = shift_by(core, port, window, Size::L);
-    unless_made(core, port, aside, made)
-}
-
-/// EMUL.
-#[inline(never)]
-#[tactic(auto, using(crate::proofs::Opcodes::at_7a))]
-pub(crate) fn multiply_extended<P: Port>(
+pub(crate) fn unary<P: Port, const OPCODE: u8>(
     core: &mut Core,
     port: &mut P,
     window: Window,
 ) -> Option<()>
     requires window { IsSeen (P.view port.old) core.old window }
-    ensures exact { MakesOrStays (made_by 0x7A) result
+    ensures exact { MakesOrStays (made_by OPCODE) result
         (computer P.view core.old port.old) (computer P.view core.new port.new) }
     ensures leaves { Leaves P.since core.old port.old core.new port.new }
 {
+    let Some(
+        Action::Integer(
+            Integer::Unary {
+                operation,
+                from,
+                to,
+            },
+        ),
+    ) = action(OPCODE)
+    else {
+        return act_by_table(core, port, window, OPCODE);
+    };
     let aside = *core;
-    let made = extended_multiply(core, port, window);
+    let mut fast = Fast {
+        core: &mut *core,
+        port: &mut *port,
+        window,
+    };
+    let made = done(shapes::unary(&mut fast, operation, from, to));
     unless_made(core, port, aside, made)
 }
 
-/// MOVB.
+/// Two operands, of which the second is replaced.
 #[inline(never)]
-#[tactic(auto, using(crate::proofs::Opcodes::at_90))]
-pub(crate) fn move_byte<P: Port>(core: &mut Core, port: &mut P, window: Window) -> Option<()>
+pub(crate) fn two<P: Port, const OPCODE: u8>(
+    core: &mut Core,
+    port: &mut P,
+    window: Window,
+) -> Option<()>
     requires window { IsSeen (P.view port.old) core.old window }
-    ensures exact { MakesOrStays (made_by 0x90) result
+    ensures exact { MakesOrStays (made_by OPCODE) result
         (computer P.view core.old port.old) (computer P.view core.new port.new) }
     ensures leaves { Leaves P.since core.old port.old core.new port.new }
 {
+    let Some(Action::Integer(Integer::Two { operation, size })) = action(OPCODE) else {
+        return act_by_table(core, port, window, OPCODE);
+    };
     let aside = *core;
-    let made = unary(core, port, window, Unary::Move, Size::B, Size::B);
+    let mut fast = Fast {
+        core: &mut *core,
+        port: &mut *port,
+        window,
+    };
+    let made = done(shapes::two(&mut fast, operation, size));
     unless_made(core, port, aside, made)
 }
 
-/// CMPB.
+/// Two operands, with a third for the result.
 #[inline(never)]
-#[tactic(auto, using(crate::proofs::Opcodes::at_91))]
-pub(crate) fn compare_byte<P: Port>(core: &mut Core, port: &mut P, window: Window) -> Option<()>
+pub(crate) fn three<P: Port, const OPCODE: u8>(
+    core: &mut Core,
+    port: &mut P,
+    window: Window,
+) -> Option<()>
     requires window { IsSeen (P.view port.old) core.old window }
-    ensures exact { MakesOrStays (made_by 0x91) result
+    ensures exact { MakesOrStays (made_by OPCODE) result
         (computer P.view core.old port.old) (computer P.view core.new port.new) }
     ensures leaves { Leaves P.since core.old port.old core.new port.new }
 {
+    let Some(Action::Integer(Integer::Three { operation, size })) = action(OPCODE) else {
+        return act_by_table(core, port, window, OPCODE);
+    };
     let aside = *core;
-    let made = compare(core, port, window, Size::B);
+    let mut fast = Fast {
+        core: &mut *core,
+        port: &mut *port,
+        window,
+    };
+    let made = done(shapes::three(&mut fast, operation, size));
     unless_made(core, port, aside, made)
 }
 
-/// TSTB.
+/// INC or DEC.
 #[inline(never)]
-#[tactic(auto, using(crate::proofs::Opcodes::at_95))]
-pub(crate) fn test_byte<P: Port>(core: &mut Core, port: &mut P, window: Window) -> Option<()>
+pub(crate) fn by_one<P: Port, const OPCODE: u8>(
+    core: &mut Core,
+    port: &mut P,
+    window: Window,
+) -> Option<()>
     requires window { IsSeen (P.view port.old) core.old window }
-    ensures exact { MakesOrStays (made_by 0x95) result
+    ensures exact { MakesOrStays (made_by OPCODE) result
         (computer P.view core.old port.old) (computer P.view core.new port.new) }
     ensures leaves { Leaves P.since core.old port.old core.new port.new }
 {
+    let Some(Action::Integer(Integer::ByOne { operation, size })) = action(OPCODE) else {
+        return act_by_table(core, port, window, OPCODE);
+    };
     let aside = *core;
-    let made = test(core, port, window, Size::B);
+    let mut fast = Fast {
+        core: &mut *core,
+        port: &mut *port,
+        window,
+    };
+    let made = done(shapes::by_one(&mut fast, operation, size));
     unless_made(core, port, aside, made)
 }
 
-/// CVTBL.
+/// CLR.
 #[inline(never)]
-#[tactic(auto, using(crate::proofs::Opcodes::at_98))]
-pub(crate) fn convert_byte<P: Port>(core: &mut Core, port: &mut P, window: Window) -> Option<()>
+pub(crate) fn clear<P: Port, const OPCODE: u8>(
+    core: &mut Core,
+    port: &mut P,
+    window: Window,
+) -> Option<()>
     requires window { IsSeen (P.view port.old) core.old window }
-    ensures exact { MakesOrStays (made_by 0x98) result
+    ensures exact { MakesOrStays (made_by OPCODE) result
         (computer P.view core.old port.old) (computer P.view core.new port.new) }
     ensures leaves { Leaves P.since core.old port.old core.new port.new }
 {
+    let Some(Action::Integer(Integer::Clear(size))) = action(OPCODE) else {
+        return act_by_table(core, port, window, OPCODE);
+    };
     let aside = *core;
-    let made = unary(core, port, window, Unary::Convert, Size::B, Size::L);
+    let mut fast = Fast {
+        core: &mut *core,
+        port: &mut *port,
+        window,
+    };
+    let made = done(shapes::clear(&mut fast, size));
     unless_made(core, port, aside, made)
 }
 
-/// MOVZBL.
+/// TST.
 #[inline(never)]
-#[tactic(auto, using(crate::proofs::Opcodes::at_9a))]
-pub(crate) fn zero_extend_byte<P: Port>(core: &mut Core, port: &mut P, window: Window) -> Option<()>
+pub(crate) fn test<P: Port, const OPCODE: u8>(
+    core: &mut Core,
+    port: &mut P,
+    window: Window,
+) -> Option<()>
     requires window { IsSeen (P.view port.old) core.old window }
-    ensures exact { MakesOrStays (made_by 0x9A) result
+    ensures exact { MakesOrStays (made_by OPCODE) result
         (computer P.view core.old port.old) (computer P.view core.new port.new) }
     ensures leaves { Leaves P.since core.old port.old core.new port.new }
 {
+    let Some(Action::Integer(Integer::Test(size))) = action(OPCODE) else {
+        return act_by_table(core, port, window, OPCODE);
+    };
     let aside = *core;
-    let made = unary(core, port, window, Unary::ZeroExtend, Size::B, Size::L);
+    let mut fast = Fast {
+        core: &mut *core,
+        port: &mut *port,
+        window,
+    };
+    let made = done(shapes::test(&mut fast, size.into()));
+    unless_made(core, port, aside, made)
+}
+
+/// CMP.
+#[inline(never)]
+pub(crate) fn compare<P: Port, const OPCODE: u8>(
+    core: &mut Core,
+    port: &mut P,
+    window: Window,
+) -> Option<()>
+    requires window { IsSeen (P.view port.old) core.old window }
+    ensures exact { MakesOrStays (made_by OPCODE) result
+        (computer P.view core.old port.old) (computer P.view core.new port.new) }
+    ensures leaves { Leaves P.since core.old port.old core.new port.new }
+{
+    let Some(Action::Integer(Integer::Compare(size))) = action(OPCODE) else {
+        return act_by_table(core, port, window, OPCODE);
+    };
+    let aside = *core;
+    let mut fast = Fast {
+        core: &mut *core,
+        port: &mut *port,
+        window,
+    };
+    let made = done(shapes::compare(&mut fast, size.into()));
+    unless_made(core, port, aside, made)
+}
+
+/// ASH.
+#[inline(never)]
+pub(crate) fn shift_by<P: Port, const OPCODE: u8>(
+    core: &mut Core,
+    port: &mut P,
+    window: Window,
+) -> Option<()>
+    requires window { IsSeen (P.view port.old) core.old window }
+    ensures exact { MakesOrStays (made_by OPCODE) result
+        (computer P.view core.old port.old) (computer P.view core.new port.new) }
+    ensures leaves { Leaves P.since core.old port.old core.new port.new }
+{
+    let Some(Action::Integer(Integer::Shift(size))) = action(OPCODE) else {
+        return act_by_table(core, port, window, OPCODE);
+    };
+    let aside = *core;
+    let mut fast = Fast {
+        core: &mut *core,
+        port: &mut *port,
+        window,
+    };
+    let made = done(shapes::shift_by(&mut fast, size));
     unless_made(core, port, aside, made)
 }
 
 /// ROTL.
 #[inline(never)]
-#[tactic(auto, using(crate::proofs::Opcodes::at_9c))]
-pub(crate) fn rotate_long<P: Port>(core: &mut Core, port: &mut P, window: Window) -> Option<()>
-    requires window { IsSeen (P.view port.old) core.old window }
-    ensures exact { MakesOrStays (made_by 0x9C) result
-        (computer P.view core.old port.old) (computer P.view core.new port.new) }
-    ensures leaves { Leaves P.since core.old port.old core.new port.new }
-{
-    let aside = *core;
-    let made = rotate(core, port, window);
-    unless_made(core, port, aside, made)
-}
-
-/// MOVAB.
-#[inline(never)]
-#[tactic(auto, using(crate::proofs::Opcodes::at_9e))]
-pub(crate) fn move_address_of_byte<P: Port>(
+pub(crate) fn rotate<P: Port, const OPCODE: u8>(
     core: &mut Core,
     port: &mut P,
     window: Window,
 ) -> Option<()>
     requires window { IsSeen (P.view port.old) core.old window }
-    ensures exact { MakesOrStays (made_by 0x9E) result
+    ensures exact { MakesOrStays (made_by OPCODE) result
         (computer P.view core.old port.old) (computer P.view core.new port.new) }
     ensures leaves { Leaves P.since core.old port.old core.new port.new }
 {
+    let Some(Action::Integer(Integer::Rotate)) = action(OPCODE) else {
+        return act_by_table(core, port, window, OPCODE);
+    };
     let aside = *core;
-    let made = move_address(core, port, window, Size::B);
+    let mut fast = Fast {
+        core: &mut *core,
+        port: &mut *port,
+        window,
+    };
+    let made = done(shapes::rotate(&mut fast));
     unless_made(core, port, aside, made)
 }
 
-/// ADDW2.
+/// MOVA.
 #[inline(never)]
-#[tactic(auto, using(crate::proofs::Opcodes::at_a0))]
-pub(crate) fn add_word<P: Port>(core: &mut Core, port: &mut P, window: Window) -> Option<()>
-    requires window { IsSeen (P.view port.old) core.old window }
-    ensures exact { MakesOrStays (made_by 0xA0) result
-        (computer P.view core.old port.old) (computer P.view core.new port.new) }
-    ensures leaves { Leaves P.since core.old port.old core.new port.new }
-{
-    let aside = *core;
-    let made = two(core, port, window, Binary::Add, Narrow::W);
-    unless_made(core, port, aside, made)
-}
-
-/// MOVW.
-#[inline(never)]
-#[tactic(auto, using(crate::proofs::Opcodes::at_b0))]
-pub(crate) fn move_word<P: Port>(core: &mut Core, port: &mut P, window: Window) -> Option<()>
-    requires window { IsSeen (P.view port.old) core.old window }
-    ensures exact { MakesOrStays (made_by 0xB0) result
-        (computer P.view core.old port.old) (computer P.view core.new port.new) }
-    ensures leaves { Leaves P.since core.old port.old core.new port.new }
-{
-    let aside = *core;
-    let made = unary(core, port, window, Unary::Move, Size::W, Size::W);
-    unless_made(core, port, aside, made)
-}
-
-/// CMPW.
-#[inline(never)]
-#[tactic(auto, using(crate::proofs::Opcodes::at_b1))]
-pub(crate) fn compare_word<P: Port>(core: &mut Core, port: &mut P, window: Window) -> Option<()>
-    requires window { IsSeen (P.view port.old) core.old window }
-    ensures exact { MakesOrStays (made_by 0xB1) result
-        (computer P.view core.old port.old) (computer P.view core.new port.new) }
-    ensures leaves { Leaves P.since core.old port.old core.new port.new }
-{
-    let aside = *core;
-    let made = compare(core, port, window, Size::W);
-    unless_made(core, port, aside, made)
-}
-
-/// ADDL2.
-#[inline(never)]
-#[tactic(auto, using(crate::proofs::Opcodes::at_c0))]
-pub(crate) fn add_long<P: Port>(core: &mut Core, port: &mut P, window: Window) -> Option<()>
-    requires window { IsSeen (P.view port.old) core.old window }
-    ensures exact { MakesOrStays (made_by 0xC0) result
-        (computer P.view core.old port.old) (computer P.view core.new port.new) }
-    ensures leaves { Leaves P.since core.old port.old core.new port.new }
-{
-    let aside = *core;
-    let made = two(core, port, window, Binary::Add, Narrow::L);
-    unless_made(core, port, aside, made)
-}
-
-/// ADDL3.
-#[inline(never)]
-#[tactic(auto, using(crate::proofs::Opcodes::at_c1))]
-pub(crate) fn add_three_long<P: Port>(core: &mut Core, port: &mut P, window: Window) -> Option<()>
-    requires window { IsSeen (P.view port.old) core.old window }
-    ensures exact { MakesOrStays (made_by 0xC1) result
-        (computer P.view core.old port.old) (computer P.view core.new port.new) }
-    ensures leaves { Leaves P.since core.old port.old core.new port.new }
-{
-    let aside = *core;
-    let made = three(core, port, window, Binary::Add, Narrow::L);
-    unless_made(core, port, aside, made)
-}
-
-/// SUBL2.
-#[inline(never)]
-#[tactic(auto, using(crate::proofs::Opcodes::at_c2))]
-pub(crate) fn subtract_long<P: Port>(core: &mut Core, port: &mut P, window: Window) -> Option<()>
-    requires window { IsSeen (P.view port.old) core.old window }
-    ensures exact { MakesOrStays (made_by 0xC2) result
-        (computer P.view core.old port.old) (computer P.view core.new port.new) }
-    ensures leaves { Leaves P.since core.old port.old core.new port.new }
-{
-    let aside = *core;
-    let made = two(core, port, window, Binary::Subtract, Narrow::L);
-    unless_made(core, port, aside, made)
-}
-
-/// SUBL3.
-#[inline(never)]
-#[tactic(auto, using(crate::proofs::Opcodes::at_c3))]
-pub(crate) fn subtract_three_long<P: Port>(
+pub(crate) fn move_address<P: Port, const OPCODE: u8>(
     core: &mut Core,
     port: &mut P,
     window: Window,
 ) -> Option<()>
     requires window { IsSeen (P.view port.old) core.old window }
-    ensures exact { MakesOrStays (made_by 0xC3) result
+    ensures exact { MakesOrStays (made_by OPCODE) result
         (computer P.view core.old port.old) (computer P.view core.new port.new) }
     ensures leaves { Leaves P.since core.old port.old core.new port.new }
 {
+    let Some(Action::Integer(Integer::MoveAddress(size))) = action(OPCODE) else {
+        return act_by_table(core, port, window, OPCODE);
+    };
     let aside = *core;
-    let made = three(core, port, window, Binary::Subtract, Narrow::L);
-    unless_made(core, port, aside, made)
-}
-
-/// MULL2.
-#[inline(never)]
-#[tactic(auto, using(crate::proofs::Opcodes::at_c4))]
-pub(crate) fn multiply_long<P: Port>(core: &mut Core, port: &mut P, window: Window) -> Option<()>
-    requires window { IsSeen (P.view port.old) core.old window }
-    ensures exact { MakesOrStays (made_by 0xC4) result
-        (computer P.view core.old port.old) (computer P.view core.new port.new) }
-    ensures leaves { Leaves P.since core.old port.old core.new port.new }
-{
-    let aside = *core;
-    let made = two(core, port, window, Binary::Multiply, Narrow::L);
-    unless_made(core, port, aside, made)
-}
-
-/// MULL3.
-#[inline(never)]
-#[tactic(auto, using(crate::proofs::Opcodes::at_c5))]
-pub(crate) fn multiply_three_long<P: Port>(
-    core: &mut Core,
-    port: &mut P,
-    window: Window,
-) -> Option<()>
-    requires window { IsSeen (P.view port.old) core.old window }
-    ensures exact { MakesOrStays (made_by 0xC5) result
-        (computer P.view core.old port.old) (computer P.view core.new port.new) }
-    ensures leaves { Leaves P.since core.old port.old core.new port.new }
-{
-    let aside = *core;
-    let made = three(core, port, window, Binary::Multiply, Narrow::L);
-    unless_made(core, port, aside, made)
-}
-
-/// BISL2.
-#[inline(never)]
-#[tactic(auto, using(crate::proofs::Opcodes::at_c8))]
-pub(crate) fn set_bits_long<P: Port>(core: &mut Core, port: &mut P, window: Window) -> Option<()>
-    requires window { IsSeen (P.view port.old) core.old window }
-    ensures exact { MakesOrStays (made_by 0xC8) result
-        (computer P.view core.old port.old) (computer P.view core.new port.new) }
-    ensures leaves { Leaves P.since core.old port.old core.new port.new }
-{
-    let aside = *core;
-    let made = two(core, port, window, Binary::BitSet, Narrow::L);
-    unless_made(core, port, aside, made)
-}
-
-/// BISL3.
-#[inline(never)]
-#[tactic(auto, using(crate::proofs::Opcodes::at_c9))]
-pub(crate) fn set_bits_three_long<P: Port>(
-    core: &mut Core,
-    port: &mut P,
-    window: Window,
-) -> Option<()>
-    requires window { IsSeen (P.view port.old) core.old window }
-    ensures exact { MakesOrStays (made_by 0xC9) result
-        (computer P.view core.old port.old) (computer P.view core.new port.new) }
-    ensures leaves { Leaves P.since core.old port.old core.new port.new }
-{
-    let aside = *core;
-    let made = three(core, port, window, Binary::BitSet, Narrow::L);
-    unless_made(core, port, aside, made)
-}
-
-/// BICL2.
-#[inline(never)]
-#[tactic(auto, using(crate::proofs::Opcodes::at_ca))]
-pub(crate) fn clear_bits_long<P: Port>(core: &mut Core, port: &mut P, window: Window) -> Option<()>
-    requires window { IsSeen (P.view port.old) core.old window }
-    ensures exact { MakesOrStays (made_by 0xCA) result
-        (computer P.view core.old port.old) (computer P.view core.new port.new) }
-    ensures leaves { Leaves P.since core.old port.old core.new port.new }
-{
-    let aside = *core;
-    let made = two(core, port, window, Binary::BitClear, Narrow::L);
-    unless_made(core, port, aside, made)
-}
-
-/// BICL3.
-#[inline(never)]
-#[tactic(auto, using(crate::proofs::Opcodes::at_cb))]
-pub(crate) fn clear_bits_three_long<P: Port>(
-    core: &mut Core,
-    port: &mut P,
-    window: Window,
-) -> Option<()>
-    requires window { IsSeen (P.view port.old) core.old window }
-    ensures exact { MakesOrStays (made_by 0xCB) result
-        (computer P.view core.old port.old) (computer P.view core.new port.new) }
-    ensures leaves { Leaves P.since core.old port.old core.new port.new }
-{
-    let aside = *core;
-    let made = three(core, port, window, Binary::BitClear, Narrow::L);
-    unless_made(core, port, aside, made)
-}
-
-/// XORL2.
-#[inline(never)]
-#[tactic(auto, using(crate::proofs::Opcodes::at_cc))]
-pub(crate) fn exclusive_or_long<P: Port>(
-    core: &mut Core,
-    port: &mut P,
-    window: Window,
-) -> Option<()>
-    requires window { IsSeen (P.view port.old) core.old window }
-    ensures exact { MakesOrStays (made_by 0xCC) result
-        (computer P.view core.old port.old) (computer P.view core.new port.new) }
-    ensures leaves { Leaves P.since core.old port.old core.new port.new }
-{
-    let aside = *core;
-    let made = two(core, port, window, Binary::ExclusiveOr, Narrow::L);
-    unless_made(core, port, aside, made)
-}
-
-/// XORL3.
-#[inline(never)]
-#[tactic(auto, using(crate::proofs::Opcodes::at_cd))]
-pub(crate) fn exclusive_or_three_long<P: Port>(
-    core: &mut Core,
-    port: &mut P,
-    window: Window,
-) -> Option<()>
-    requires window { IsSeen (P.view port.old) core.old window }
-    ensures exact { MakesOrStays (made_by 0xCD) result
-        (computer P.view core.old port.old) (computer P.view core.new port.new) }
-    ensures leaves { Leaves P.since core.old port.old core.new port.new }
-{
-    let aside = *core;
-    let made = three(core, port, window, Binary::ExclusiveOr, Narrow::L);
-    unless_made(core, port, aside, made)
-}
-
-/// MOVL.
-#[inline(never)]
-#[tactic(auto, using(crate::proofs::Opcodes::at_d0))]
-pub(crate) fn move_long<P: Port>(core: &mut Core, port: &mut P, window: Window) -> Option<()>
-    requires window { IsSeen (P.view port.old) core.old window }
-    ensures exact { MakesOrStays (made_by 0xD0) result
-        (computer P.view core.old port.old) (computer P.view core.new port.new) }
-    ensures leaves { Leaves P.since core.old port.old core.new port.new }
-{
-    let aside = *core;
-    let made = unary(core, port, window, Unary::Move, Size::L, Size::L);
-    unless_made(core, port, aside, made)
-}
-
-/// CMPL.
-#[inline(never)]
-#[tactic(auto, using(crate::proofs::Opcodes::at_d1))]
-pub(crate) fn compare_long<P: Port>(core: &mut Core, port: &mut P, window: Window) -> Option<()>
-    requires window { IsSeen (P.view port.old) core.old window }
-    ensures exact { MakesOrStays (made_by 0xD1) result
-        (computer P.view core.old port.old) (computer P.view core.new port.new) }
-    ensures leaves { Leaves P.since core.old port.old core.new port.new }
-{
-    let aside = *core;
-    let made = compare(core, port, window, Size::L);
-    unless_made(core, port, aside, made)
-}
-
-/// MCOML.
-#[inline(never)]
-#[tactic(auto, using(crate::proofs::Opcodes::at_d2))]
-pub(crate) fn complement_long<P: Port>(core: &mut Core, port: &mut P, window: Window) -> Option<()>
-    requires window { IsSeen (P.view port.old) core.old window }
-    ensures exact { MakesOrStays (made_by 0xD2) result
-        (computer P.view core.old port.old) (computer P.view core.new port.new) }
-    ensures leaves { Leaves P.since core.old port.old core.new port.new }
-{
-    let aside = *core;
-    let made = unary(core, port, window, Unary::Complement, Size::L, Size::L);
-    unless_made(core, port, aside, made)
-}
-
-/// CLRL.
-#[inline(never)]
-#[tactic(auto, using(crate::proofs::Opcodes::at_d4))]
-pub(crate) fn clear_long<P: Port>(core: &mut Core, port: &mut P, window: Window) -> Option<()>
-    requires window { IsSeen (P.view port.old) core.old window }
-    ensures exact { MakesOrStays (made_by 0xD4) result
-        (computer P.view core.old port.old) (computer P.view core.new port.new) }
-    ensures leaves { Leaves P.since core.old port.old core.new port.new }
-{
-    let aside = *core;
-    let made = clear(core, port, window, Size::L);
-    unless_made(core, port, aside, made)
-}
-
-/// TSTL.
-#[inline(never)]
-#[tactic(auto, using(crate::proofs::Opcodes::at_d5))]
-pub(crate) fn test_long<P: Port>(core: &mut Core, port: &mut P, window: Window) -> Option<()>
-    requires window { IsSeen (P.view port.old) core.old window }
-    ensures exact { MakesOrStays (made_by 0xD5) result
-        (computer P.view core.old port.old) (computer P.view core.new port.new) }
-    ensures leaves { Leaves P.since core.old port.old core.new port.new }
-{
-    let aside = *core;
-    let made = test(core, port, window, Size::L);
-    unless_made(core, port, aside, made)
-}
-
-/// INCL.
-#[inline(never)]
-#[tactic(auto, using(crate::proofs::Opcodes::at_d6))]
-pub(crate) fn increment_long<P: Port>(core: &mut Core, port: &mut P, window: Window) -> Option<()>
-    requires window { IsSeen (P.view port.old) core.old window }
-    ensures exact { MakesOrStays (made_by 0xD6) result
-        (computer P.view core.old port.old) (computer P.view core.new port.new) }
-    ensures leaves { Leaves P.since core.old port.old core.new port.new }
-{
-    let aside = *core;
-    let made = by_one(core, port, window, Binary::Add, Narrow::L);
-    unless_made(core, port, aside, made)
-}
-
-/// DECL.
-#[inline(never)]
-#[tactic(auto, using(crate::proofs::Opcodes::at_d7))]
-pub(crate) fn decrement_long<P: Port>(core: &mut Core, port: &mut P, window: Window) -> Option<()>
-    requires window { IsSeen (P.view port.old) core.old window }
-    ensures exact { MakesOrStays (made_by 0xD7) result
-        (computer P.view core.old port.old) (computer P.view core.new port.new) }
-    ensures leaves { Leaves P.since core.old port.old core.new port.new }
-{
-    let aside = *core;
-    let made = by_one(core, port, window, Binary::Subtract, Narrow::L);
-    unless_made(core, port, aside, made)
-}
-
-/// ADWC.
-#[inline(never)]
-#[tactic(auto, using(crate::proofs::Opcodes::at_d8))]
-pub(crate) fn add_with_carry<P: Port>(core: &mut Core, port: &mut P, window: Window) -> Option<()>
-    requires window { IsSeen (P.view port.old) core.old window }
-    ensures exact { MakesOrStays (made_by 0xD8) result
-        (computer P.view core.old port.old) (computer P.view core.new port.new) }
-    ensures leaves { Leaves P.since core.old port.old core.new port.new }
-{
-    let aside = *core;
-    let made = two(core, port, window, Binary::AddWithCarry, Narrow::L);
+    let mut fast = Fast {
+        core: &mut *core,
+        port: &mut *port,
+        window,
+    };
+    let made = done(shapes::move_address(&mut fast, size));
     unless_made(core, port, aside, made)
 }
 
 /// PUSHL.
 #[inline(never)]
-#[tactic(auto, using(crate::proofs::Opcodes::at_dd))]
-pub(crate) fn push_longword<P: Port>(core: &mut Core, port: &mut P, window: Window) -> Option<()>
-    requires window { IsSeen (P.view port.old) core.old window }
-    ensures exact { MakesOrStays (made_by 0xDD) result
-        (computer P.view core.old port.old) (computer P.view core.new port.new) }
-    ensures leaves { Leaves P.since core.old port.old core.new port.new }
-{
-    let aside = *core;
-    let made = push_long(core, port, window);
-    unless_made(core, port, aside, made)
-}
-
-/// MOVAL.
-#[inline(never)]
-#[tactic(auto, using(crate::proofs::Opcodes::at_de))]
-pub(crate) fn move_address_of_long<P: Port>(
+pub(crate) fn push_long<P: Port, const OPCODE: u8>(
     core: &mut Core,
     port: &mut P,
     window: Window,
 ) -> Option<()>
     requires window { IsSeen (P.view port.old) core.old window }
-    ensures exact { MakesOrStays (made_by 0xDE) result
+    ensures exact { MakesOrStays (made_by OPCODE) result
         (computer P.view core.old port.old) (computer P.view core.new port.new) }
     ensures leaves { Leaves P.since core.old port.old core.new port.new }
 {
+    let Some(Action::Integer(Integer::Push)) = action(OPCODE) else {
+        return act_by_table(core, port, window, OPCODE);
+    };
     let aside = *core;
-    let made = move_address(core, port, window, Size::L);
+    let mut fast = Fast {
+        core: &mut *core,
+        port: &mut *port,
+        window,
+    };
+    let made = done(shapes::push_long(&mut fast));
+    unless_made(core, port, aside, made)
+}
+
+/// EMUL.
+#[inline(never)]
+pub(crate) fn extended_multiply<P: Port, const OPCODE: u8>(
+    core: &mut Core,
+    port: &mut P,
+    window: Window,
+) -> Option<()>
+    requires window { IsSeen (P.view port.old) core.old window }
+    ensures exact { MakesOrStays (made_by OPCODE) result
+        (computer P.view core.old port.old) (computer P.view core.new port.new) }
+    ensures leaves { Leaves P.since core.old port.old core.new port.new }
+{
+    let Some(Action::Integer(Integer::ExtendedMultiply)) = action(OPCODE) else {
+        return act_by_table(core, port, window, OPCODE);
+    };
+    let aside = *core;
+    let mut fast = Fast {
+        core: &mut *core,
+        port: &mut *port,
+        window,
+    };
+    let made = done(shapes::extended_multiply(&mut fast));
     unless_made(core, port, aside, made)
 }

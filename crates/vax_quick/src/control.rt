@@ -150,7 +150,7 @@ fn low_bit<P: Port>(core: &mut Core, port: &mut P, window: Window, set: bool) ->
 /// Writes a loop's index, sets its codes but C, and lets control go on at the target or behind.
 #[inline(always)]
 #[tactic(auto, using(crate::proofs::Quiet::quiet_still), unfolding(vax_flat::specs::Control::looped))]
-fn go_on<P: Port>(
+pub(crate) fn go_on<P: Port>(
     core: &mut Core,
     port: &mut P,
     size: Size,

@@ -10,7 +10,6 @@ use crate::access::{next_place, next_value};
 use crate::addresses::next_target;
 use crate::bases::{bits_of_field, held, next_base, put};
 use crate::control::jump_if;
-use crate::integer::carry;
 use crate::results::answer;
 use crate::window::Window;
 use vax_flat::Holder;
@@ -37,7 +36,7 @@ fn extract<P: Port>(core: &mut Core, port: &mut P, window: Window, signed: bool)
     let (place, _) = next_place(core, port, window, Size::L)?;
     let size = size as u8;
     let bits = bits_of_field(core, port, position as u32, size, base)?;
-    let made = answer_of(widen(signed, size, bits), carry(core));
+    let made = answer_of(widen(signed, size, bits), core.psl.codes().c);
     answer(core, port, Size::L, place, false, made)
 }
 

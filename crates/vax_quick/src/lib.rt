@@ -11,6 +11,7 @@ mod bases;
 mod branches;
 mod call;
 mod control;
+mod fast;
 mod field;
 mod integer;
 mod memory;

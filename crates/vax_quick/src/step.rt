@@ -4,15 +4,6 @@ ghost use Rattle.vax_flat.specs.Instruction.{acted_part, acted_part_if, first_pa
 ghost use Rattle.vax_undo.specs.FirstPart.{first_part_done};
 ghost use Rattle.vax_quick.specs.Made.{IsSeen, IsStill, Leaves, Makes, MakesOrStays, MakesStep, MakesSteps, computer, made_by};
 
-use crate::arms::{
-    add_long, add_three_long, add_with_carry, add_word, clear_bits_long, clear_bits_three_long,
-    clear_long, compare_byte, compare_long, compare_word, complement_long, convert_byte,
-    decrement_long, exclusive_or_long, exclusive_or_three_long, increment_long,
-    move_address_of_byte, move_address_of_long, move_byte, move_long, move_word, multiply_extended,
-    multiply_long, multiply_three_long, push_longword, rotate_long, set_bits_long,
-    set_bits_three_long, shift_long, subtract_long, subtract_three_long, test_byte, test_long,
-    zero_extend_byte, zero_extend_word,
-};
 use crate::branches::{
     add_one_below, branch_byte, branch_carry_clear, branch_carry_set, branch_equal, branch_greater,
     branch_greater_or_equal, branch_greater_unsigned, branch_less, branch_less_or_equal,
@@ -22,7 +13,7 @@ use crate::branches::{
 };
 use crate::results::unless_made;
 use crate::window::{Window, fetch, look};
-use crate::{call, control, field, integer};
+use crate::{arms, call, control, field, integer};
 use vax_isa::{Action, action};
 use vax_undo::Port;
 use vax_word::Core;
@@ -81,7 +72,12 @@ fn act_if<P: Port>(
 /// What an opcode stands for that has no arm of its own.
 #[inline(never)]
 #[tactic(auto, unfolding(crate::specs::Made::made_by))]
-fn act_by_table<P: Port>(core: &mut Core, port: &mut P, window: Window, opcode: u8) -> Option<()>
+pub(crate) fn act_by_table<P: Port>(
+    core: &mut Core,
+    port: &mut P,
+    window: Window,
+    opcode: u8,
+) -> Option<()>
     requires window { IsSeen (P.view port.old) core.old window }
     ensures exact { MakesOrStays (made_by opcode) result
         (computer P.view core.old port.old) (computer P.view core.new port.new) }
@@ -105,28 +101,28 @@ fn act_on_longwords<P: Port>(
     ensures leaves { Leaves P.since core.old port.old core.new port.new }
 {
     match opcode {
-        0xC0 => add_long(core, port, window),
-        0xC1 => add_three_long(core, port, window),
-        0xC2 => subtract_long(core, port, window),
-        0xC3 => subtract_three_long(core, port, window),
-        0xC4 => multiply_long(core, port, window),
-        0xC5 => multiply_three_long(core, port, window),
-        0xC8 => set_bits_long(core, port, window),
-        0xC9 => set_bits_three_long(core, port, window),
-        0xCA => clear_bits_long(core, port, window),
-        0xCB => clear_bits_three_long(core, port, window),
-        0xCC => exclusive_or_long(core, port, window),
-        0xCD => exclusive_or_three_long(core, port, window),
-        0xD0 => move_long(core, port, window),
-        0xD1 => compare_long(core, port, window),
-        0xD2 => complement_long(core, port, window),
-        0xD4 => clear_long(core, port, window),
-        0xD5 => test_long(core, port, window),
-        0xD6 => increment_long(core, port, window),
-        0xD7 => decrement_long(core, port, window),
-        0xD8 => add_with_carry(core, port, window),
-        0xDD => push_longword(core, port, window),
-        0xDE => move_address_of_long(core, port, window),
+        0xC0 => arms::two::<P, 0xC0>(core, port, window),
+        0xC1 => arms::three::<P, 0xC1>(core, port, window),
+        0xC2 => arms::two::<P, 0xC2>(core, port, window),
+        0xC3 => arms::three::<P, 0xC3>(core, port, window),
+        0xC4 => arms::two::<P, 0xC4>(core, port, window),
+        0xC5 => arms::three::<P, 0xC5>(core, port, window),
+        0xC8 => arms::two::<P, 0xC8>(core, port, window),
+        0xC9 => arms::three::<P, 0xC9>(core, port, window),
+        0xCA => arms::two::<P, 0xCA>(core, port, window),
+        0xCB => arms::three::<P, 0xCB>(core, port, window),
+        0xCC => arms::two::<P, 0xCC>(core, port, window),
+        0xCD => arms::three::<P, 0xCD>(core, port, window),
+        0xD0 => arms::unary::<P, 0xD0>(core, port, window),
+        0xD1 => arms::compare::<P, 0xD1>(core, port, window),
+        0xD2 => arms::unary::<P, 0xD2>(core, port, window),
+        0xD4 => arms::clear::<P, 0xD4>(core, port, window),
+        0xD5 => arms::test::<P, 0xD5>(core, port, window),
+        0xD6 => arms::by_one::<P, 0xD6>(core, port, window),
+        0xD7 => arms::by_one::<P, 0xD7>(core, port, window),
+        0xD8 => arms::two::<P, 0xD8>(core, port, window),
+        0xDD => arms::push_long::<P, 0xDD>(core, port, window),
+        0xDE => arms::move_address::<P, 0xDE>(core, port, window),
         _ => act_by_table(core, port, window, opcode),
     }
 }
@@ -141,19 +137,19 @@ fn act_on_values<P: Port>(core: &mut Core, port: &mut P, window: Window, opcode:
     ensures leaves { Leaves P.since core.old port.old core.new port.new }
 {
     match opcode {
-        0x3C => zero_extend_word(core, port, window),
-        0x78 => shift_long(core, port, window),
-        0x7A => multiply_extended(core, port, window),
-        0x90 => move_byte(core, port, window),
-        0x91 => compare_byte(core, port, window),
-        0x95 => test_byte(core, port, window),
-        0x98 => convert_byte(core, port, window),
-        0x9A => zero_extend_byte(core, port, window),
-        0x9C => rotate_long(core, port, window),
-        0x9E => move_address_of_byte(core, port, window),
-        0xA0 => add_word(core, port, window),
-        0xB0 => move_word(core, port, window),
-        0xB1 => compare_word(core, port, window),
+        0x3C => arms::unary::<P, 0x3C>(core, port, window),
+        0x78 => arms::shift_by::<P, 0x78>(core, port, window),
+        0x7A => arms::extended_multiply::<P, 0x7A>(core, port, window),
+        0x90 => arms::unary::<P, 0x90>(core, port, window),
+        0x91 => arms::compare::<P, 0x91>(core, port, window),
+        0x95 => arms::test::<P, 0x95>(core, port, window),
+        0x98 => arms::unary::<P, 0x98>(core, port, window),
+        0x9A => arms::unary::<P, 0x9A>(core, port, window),
+        0x9C => arms::rotate::<P, 0x9C>(core, port, window),
+        0x9E => arms::move_address::<P, 0x9E>(core, port, window),
+        0xA0 => arms::two::<P, 0xA0>(core, port, window),
+        0xB0 => arms::unary::<P, 0xB0>(core, port, window),
+        0xB1 => arms::compare::<P, 0xB1>(core, port, window),
         _ => act_on_longwords(core, port, window, opcode),
     }
 }

@@ -4,7 +4,7 @@
 #![tactic(auto)]
 
 mod conditions;
-mod shapes;
+pub mod shapes;
 
 ghost use Rattle.std.specs.Prelude.{◌≤◌};
 ghost use Rattle.vax_flat.specs.Control.{performed};
@@ -16,6 +16,17 @@ pub use crate::conditions::{compares, holds};
 use vax_flat::Flow;
 use vax_isa::Control;
 use vax_undo::{CutShort, Port, Txn};
+
+/// The instruction by its shape.
+#[inline(always)]
+#[tactic(auto, using(vax_operand::proofs::Working::does, vax_operand::proofs::Working::keeps))]
+fn perform<P: Port>(txn: &mut Txn<P>, instruction: Control) -> Result<Flow, CutShort>
+    requires { 20 ≤ room txn.old }
+    ensures exact { Does P.view P.trail (performed instruction) result txn.old txn.new }
+    ensures keeps { Keeps P.view P.since 20 txn.old txn.new }
+{
+    shapes::perform_commonest(txn, instruction)
+}
 
 /// Makes the instruction whose opcode PC is past: reads its operands, and lets control go on where it says.
 ///
@@ -29,5 +40,5 @@ pub fn run<P: Port>(txn: &mut Txn<P>, instruction: Control) -> Result<Flow, CutS
     ensures everywhere { GoesEverywhere P.view (performed instruction) result txn.old txn.new }
     ensures keeps { Keeps P.view P.since room_of_transfer txn.old txn.new }
 {
-    shapes::perform(txn, instruction)
+    perform(txn, instruction)
 }

@@ -1,12 +1,12 @@
 -- What fits a size.
-use Rattle.std.proofs.Common.{◌≡◌, ◌≢◌, ℕ, ◌<◌, ◌≤◌, ◌^◌, bit_and, bit_or, arith, to_z, w8, ◌*◌, ◌%◌, ◌-◌, ℤ, pos, negsuc, ◌+ℤ◌, ◌*ℤ◌}
+use Rattle.std.proofs.Common.{◌≡◌, ◌≢◌, ℕ, ◌<◌, ◌≤◌, ◌^◌, bit_and, bit_or, arith, to_z, w8, ◌*◌, ◌%◌, ℤ, pos, negsuc, ◌+ℤ◌, ◌*ℤ◌}
 use Rattle.std.proofs.Math.Pow.{pow_mono}
 use Rattle.std.proofs.lemmas.Bool.Decides.{nat_tests}
 use Rattle.std.proofs.lemmas.Int.{ints}
 use Rattle.std.proofs.lemmas.Nat.{or_lt, xor_lt, and_le_l, mul-lt}
 use Rattle.std.specs.Int.Bits.{bit_xor}
 use Rattle.vax_word.specs.declared.Size.{Size}
-use Rattle.vax_word.specs.declared.Size.TheVariants.{B, W, L, Q}
+use Rattle.vax_word.specs.declared.Size.TheVariants.{B, L, Q}
 use Rattle.vax_word.specs.Arithmetic.{bytes_of, signed, low_bits, answer, signed_answer, extended_product}
 use Rattle.vax_isa.specs.declared.actions.Narrow.{Narrow}
 use Rattle.vax_isa.specs.declared.actions.Narrow.TheVariants as narrow

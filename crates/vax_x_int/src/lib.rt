@@ -5,7 +5,7 @@
 #![tactic(auto)]
 
 mod results;
-mod shapes;
+pub mod shapes;
 
 ghost use Rattle.std.specs.Prelude.{◌≤◌};
 ghost use Rattle.vax_flat.specs.Integer.{performed};
@@ -17,6 +17,17 @@ pub use crate::results::{answer_of, is_by_zero, of_one, of_two, rotated};
 use vax_flat::Flow;
 use vax_isa::Integer;
 use vax_undo::{CutShort, Port, Txn};
+
+/// The instruction by its shape.
+#[inline(always)]
+#[tactic(auto, using(vax_operand::proofs::Working::does, vax_operand::proofs::Working::keeps))]
+fn perform<P: Port>(txn: &mut Txn<P>, instruction: Integer) -> Result<Flow, CutShort>
+    requires { 27 ≤ room txn.old }
+    ensures exact { Does P.view P.trail (performed instruction) result txn.old txn.new }
+    ensures keeps { Keeps P.view P.since 27 txn.old txn.new }
+{
+    shapes::perform_commonest(txn, instruction)
+}
 
 /// Makes the instruction whose opcode PC is past: reads its operands, writes its results and sets the codes.
 ///
@@ -30,5 +41,5 @@ pub fn run<P: Port>(txn: &mut Txn<P>, instruction: Integer) -> Result<Flow, CutS
     ensures everywhere { GoesEverywhere P.view (performed instruction) result txn.old txn.new }
     ensures keeps { Keeps P.view P.since room_of_integer txn.old txn.new }
 {
-    shapes::perform(txn, instruction)
+    perform(txn, instruction)
 }
