@@ -8,7 +8,8 @@ ghost use Rattle.vax_operand.specs.Addressed.{modified};
 ghost use Rattle.vax_quick.specs.Made.{Gives, IsKept, IsMoved, IsSeen, Leaves, Makes, MakesOrStays, computer};
 
 use crate::access::modified_register;
-use crate::control::{jump_if, subtract_one};
+use crate::control::jump_if;
+use crate::fast::{Fast, done};
 use crate::integer::store_in_register;
 use crate::results::{is_quiet, set_codes, unless_made};
 use crate::window::{Window, taken};
@@ -16,7 +17,7 @@ use vax_isa::Relation;
 use vax_operand::{Operand, extend};
 use vax_undo::Port;
 use vax_word::{Codes, Core, Size, sub};
-use vax_x_flow::compares;
+use vax_x_flow::{compares, shapes};
 
 /// The next byte of the instruction, if it was seen. PC moves past it.
 #[inline(always)]
@@ -185,7 +186,12 @@ fn count_down_any<P: Port>(
     ensures leaves { Leaves P.since core.old port.old core.new port.new }
 {
     let aside = *core;
-    let made = subtract_one(core, port, window, relation);
+    let mut fast = Fast {
+        core: &mut *core,
+        port: &mut *port,
+        window,
+    };
+    let made = done(shapes::subtract_one(&mut fast, relation));
     unless_made(core, port, aside, made)
 }
 

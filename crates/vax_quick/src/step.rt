@@ -4,16 +4,9 @@ ghost use Rattle.vax_flat.specs.Instruction.{acted_part, acted_part_if, first_pa
 ghost use Rattle.vax_undo.specs.FirstPart.{first_part_done};
 ghost use Rattle.vax_quick.specs.Made.{IsSeen, IsStill, Leaves, Makes, MakesOrStays, MakesStep, MakesSteps, computer, made_by};
 
-use crate::branches::{
-    add_one_below, branch_byte, branch_carry_clear, branch_carry_set, branch_equal, branch_greater,
-    branch_greater_or_equal, branch_greater_unsigned, branch_less, branch_less_or_equal,
-    branch_less_or_equal_unsigned, branch_not_equal, branch_word, call_near, call_procedure,
-    call_subroutine, return_from_procedure, return_from_subroutine, subtract_one_above_zero,
-    subtract_one_to_zero,
-};
 use crate::results::unless_made;
 use crate::window::{Window, fetch, look};
-use crate::{arms, call, control, field, integer};
+use crate::{arms, branches, call, control, field, integer};
 use vax_isa::{Action, action};
 use vax_undo::Port;
 use vax_word::Core;
@@ -164,26 +157,26 @@ fn act_by_opcode<P: Port>(core: &mut Core, port: &mut P, window: Window, opcode:
     ensures leaves { Leaves P.since core.old port.old core.new port.new }
 {
     match opcode {
-        0x04 => return_from_procedure(core, port, window),
-        0x05 => return_from_subroutine(core, port, window),
-        0x10 => call_near(core, port, window),
-        0x11 => branch_byte(core, port, window),
-        0x12 => branch_not_equal(core, port, window),
-        0x13 => branch_equal(core, port, window),
-        0x14 => branch_greater(core, port, window),
-        0x15 => branch_less_or_equal(core, port, window),
-        0x16 => call_subroutine(core, port, window),
-        0x18 => branch_greater_or_equal(core, port, window),
-        0x19 => branch_less(core, port, window),
-        0x1A => branch_greater_unsigned(core, port, window),
-        0x1B => branch_less_or_equal_unsigned(core, port, window),
-        0x1E => branch_carry_clear(core, port, window),
-        0x1F => branch_carry_set(core, port, window),
-        0x31 => branch_word(core, port, window),
-        0xF2 => add_one_below(core, port, window),
-        0xF4 => subtract_one_to_zero(core, port, window),
-        0xF5 => subtract_one_above_zero(core, port, window),
-        0xFB => call_procedure(core, port, window),
+        0x04 => branches::return_procedure::<P, 0x04>(core, port, window),
+        0x05 => branches::return_subroutine::<P, 0x05>(core, port, window),
+        0x10 => branches::branch_subroutine::<P, 0x10>(core, port, window),
+        0x11 => branches::branch::<P, 0x11>(core, port, window),
+        0x12 => branches::branch::<P, 0x12>(core, port, window),
+        0x13 => branches::branch::<P, 0x13>(core, port, window),
+        0x14 => branches::branch::<P, 0x14>(core, port, window),
+        0x15 => branches::branch::<P, 0x15>(core, port, window),
+        0x16 => branches::jump_subroutine::<P, 0x16>(core, port, window),
+        0x18 => branches::branch::<P, 0x18>(core, port, window),
+        0x19 => branches::branch::<P, 0x19>(core, port, window),
+        0x1A => branches::branch::<P, 0x1A>(core, port, window),
+        0x1B => branches::branch::<P, 0x1B>(core, port, window),
+        0x1E => branches::branch::<P, 0x1E>(core, port, window),
+        0x1F => branches::branch::<P, 0x1F>(core, port, window),
+        0x31 => branches::branch::<P, 0x31>(core, port, window),
+        0xF2 => branches::add_one::<P, 0xF2>(core, port, window),
+        0xF4 => branches::subtract_one::<P, 0xF4>(core, port, window),
+        0xF5 => branches::subtract_one::<P, 0xF5>(core, port, window),
+        0xFB => branches::call::<P, 0xFB>(core, port, window),
         _ => act_on_values(core, port, window, opcode),
     }
 }
