@@ -1,5 +1,5 @@
 -- What the list of the instructions keeps. Each law is computed once over the whole list.
-use Rattle.std.proofs.Common.{◌≡◌, ℕ, ◌<◌, ◌≤◌, Bool, true, false, ◌||◌, List, [], ◌∷◌, ◌++◌, All, IfSome, Option, Some, None, find, length, map, option_map, refl, sym, ◌∙◌, ap, subst, arith, slice_index_or, replicate, length-append, nat_le, nat_eq, ◌-◌, zero-add}
+use Rattle.std.proofs.Common.{◌≡◌, ℕ, ◌<◌, ◌≤◌, Bool, true, false, ◌||◌, List, [], ◌∷◌, ◌++◌, All, IfSome, Option, Some, None, length, map, option_map, refl, sym, ◌∙◌, ap, subst, arith, slice_index_or, replicate, length-append, nat_le, nat_eq, ◌-◌, zero-add}
 use Rattle.std.proofs.lemmas.Bool.{leb-true, eqb-true}
 use Rattle.std.proofs.lemmas.List.{get_or_append_left, length-replicate}
 use Rattle.std.proofs.lemmas.List.Sums.{AllPass-from_list_all}
@@ -8,11 +8,11 @@ use Rattle.std.specs.List.{AllPass, list_all}
 use Rattle.std.specs.Str.{bytes_eq, str_eq_ignore_ascii_case, str_to_ascii_lowercase}
 use Rattle.vax_isa.specs.declared.OperandKind.{OperandKind}
 use Rattle.vax_isa.specs.declared.table.Entry.{Entry}
-use Rattle.vax_isa.specs.Entries.{Listing, counted, entries, entry_action, entry_listing, entry_row, first_named, listing_of, row_at}
+use Rattle.vax_isa.specs.Entries.{counted, entry_action, entry_listing, entry_row, listing_at, row_at}
 use Rattle.vax_isa.specs.Actions.{operands_of}
 use Rattle.vax_isa.specs.Instructions.{Instruction, instructions}
-use Rattle.vax_isa.specs.Rows.{Plain, action_of, IsFormed, IsKind, IsName, row_of, with_opcode, with_name, is_one_of, names_of, no_operand}
-use Rattle.vax_isa.proofs.Lists.{All-agree, at_counted, find_agree, find_map, IfSome-find}
+use Rattle.vax_isa.specs.Rows.{action_of, IsFormed, IsKind, IsName, row_of, with_opcode, with_name, is_one_of, names_of, no_operand}
+use Rattle.vax_isa.proofs.Lists.{All-agree, at_counted, find_agree, IfSome-find}
 use Rattle.vax_isa.proofs.Passed.{kind_ok, kind_ok-IsKind, name_ok, name_ok-IsName}
 
 -- no two instructions have one opcode
@@ -132,11 +132,6 @@ slot_row slots listed code slot inside is =
     subst (λ (s : Option Entry). option_map entry_row s ≡ row_at code) is
     (at_counted (option_map entry_row) row_at slots 0 256 listed code None inside ∙ ap row_at (zero-add code))
 
-pub row_first_named : (slots : List (Option Entry)) → map entry_listing (entries slots) ≡ map listing_of instructions → (text : List ℕ) → option_map entry_row (first_named slots text) ≡ option_map row_of (with_name text)
-unfolding with_name
-row_first_named slots listed text =
-    let value : Listing → Plain = λ l. l.row in
-    let test : Listing → Bool = λ l. is_one_of l.names text in
-    find_map entry_listing value test (entries slots)
-    ∙ ap (λ (ls : List Listing). option_map value (find test ls)) listed
-    ∙ sym (find_map listing_of value test instructions)
+pub slot_listing : (slots : List (Option Entry)) → map (option_map entry_listing) slots ≡ map listing_at (counted 0 256) → (code : ℕ) → code < 256 → option_map entry_listing (slice_index_or slots code None) ≡ listing_at code
+slot_listing slots listed code inside =
+    at_counted (option_map entry_listing) listing_at slots 0 256 listed code None inside ∙ ap listing_at (zero-add code)

@@ -1,3 +1,4 @@
 pub mod Lists
 mod Passed
 pub mod Laws
+mod Hashing

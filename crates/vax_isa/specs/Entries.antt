@@ -1,5 +1,5 @@
 -- The code's table: an entry in the slot of each opcode that isn't reserved.
-use Rattle.std.specs.Prelude.{ℕ, zero, suc, List, [], ◌∷◌, Option, find, filter_map, map, option_map}
+use Rattle.std.specs.Prelude.{ℕ, zero, suc, List, [], ◌∷◌, Option, None, find, filter_map, map, option_map, slice_index_or}
 use Rattle.vax_isa.specs.declared.table.Entry.{Entry}
 use Rattle.vax_isa.specs.declared.actions.Action.{Action}
 use Rattle.vax_isa.specs.Instructions.{Instruction}
@@ -30,10 +30,18 @@ listing_of i = record { names = names_of i; row = row_of i }
 abbrev pub row_at : ℕ → Option Plain
 row_at code = option_map row_of (with_opcode code)
 
+-- the row of an opcode, with all the names of its instruction
+abbrev pub listing_at : ℕ → Option Listing
+listing_at code = option_map listing_of (with_opcode code)
+
 -- n numbers, from `start` on
 abbrev pub counted : ℕ → ℕ → List ℕ
 counted start zero = []
 counted start (suc n) = start ∷ counted (suc start) n
+
+-- the slots of these opcodes
+abbrev pub slots_of : List (Option Entry) → List ℕ → List (Option Entry)
+slots_of slots codes = map (λ code. slice_index_or slots code None) codes
 
 -- what stands in the slots
 abbrev pub entries : List (Option Entry) → List Entry

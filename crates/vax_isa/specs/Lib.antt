@@ -2,3 +2,4 @@ pub mod Actions
 pub mod Instructions
 pub mod Rows
 pub mod Entries
+pub mod Buckets

@@ -8,6 +8,7 @@ ghost use Rattle.vax_isa.specs.Instructions.{instructions};
 ghost use Rattle.vax_isa.specs.Rows.{action_of, plain, row_of, with_opcode, with_name, is_one_of, names_of, IsName, IsFormed};
 
 mod actions;
+mod buckets;
 mod table;
 
 pub use crate::actions::{
@@ -85,5 +86,5 @@ pub fn by_name(name: &str) -> Option<Row>
     ensures names { All (λ i. All IsName (names_of i)) instructions }
     ensures formed { IfSome result (λ r. IsFormed (plain r)) }
 {
-    table::named(table::slots(), name)
+    table::named(table::slots(), buckets::candidates(name), name)
 }

@@ -2,14 +2,14 @@
 
 ghost use Rattle.std.specs.Prelude.{◌≡◌, map, option_map};
 ghost use Rattle.std.specs.Str.{str_eq_ignore_ascii_case};
-ghost use Rattle.vax_isa.specs.Entries.{counted, entries, entry_action, entry_listing, entry_names, entry_row, first_named, listing_of, row_at};
-ghost use Rattle.vax_isa.specs.Instructions.{instructions};
+ghost use Rattle.vax_isa.specs.Entries.{counted, entry_action, entry_listing, entry_names, entry_row, first_named, listing_at, row_at, slots_of};
 ghost use Rattle.vax_isa.specs.Rows.{plain, action_of, is_one_of};
 
 use crate::actions::{
     AccessMode, Action, Binary, Call, Condition, Control, Field, Integer, Narrow, Queue, Relation,
     System, Text, Unary,
 };
+use crate::buckets::Bucket;
 use crate::{Letter, OperandKind, Row};
 use vax_word::Size;
 
@@ -53,17 +53,18 @@ fn is_among(aliases: &[&str], name: &str) -> bool
 pub(crate) fn slots() -> &'static [Option<Entry>; 256]
     ensures rows { map (option_map entry_row) result.now ≡ map row_at (counted 0 256) }
     ensures actions { map (option_map entry_action) result.now ≡ map action_of (counted 0 256) }
-    ensures listed { map entry_listing (entries result.now) ≡ map listing_of instructions }
+    ensures listings { map (option_map entry_listing) result.now ≡ map listing_at (counted 0 256) }
 {
     &TABLE
 }
 
-/// The first row in these slots with this name or alias.
-pub(crate) fn named(slots: &[Option<Entry>], name: &str) -> Option<Row>
-    ensures { option_map plain result ≡ option_map entry_row (first_named slots.now name.now) }
+/// The first row with this name or alias in the slots of these opcodes.
+pub(crate) fn named(slots: &[Option<Entry>; 256], codes: &Bucket, name: &str) -> Option<Row>
+    ensures { option_map plain result
+        ≡ option_map entry_row (first_named (slots_of slots.now codes.now) name.now) }
 {
-    for slot in slots {
-        if let Some(entry) = slot
+    for code in codes {
+        if let Some(entry) = &slots[*code as usize]
             && entry.is_named(name)
         {
             return Some(entry.row);

@@ -5,4 +5,4 @@ use Rattle.vax_isa.proofs.table.slots.Goals as goal
 
 pub returns : goal.returns
 unfolding instructions with_opcode action_of
-returns c = record { rows = refl; actions = refl; listed = refl }
+returns c = record { rows = refl; actions = refl; listings = refl }
