@@ -60,21 +60,6 @@ abbrev pub placed_by : Option ℕ → grammar.Place → grammar.Specifier
 placed_by None p = grammar.InMemory p
 placed_by (Some x) p = grammar.Indexed p x
 
--- the widths of a displacement
-abbrev pub IsDisplacement : ℕ → Type 0
-IsDisplacement width = (width ≡ 1) ⊎ ((width ≡ 2) ⊎ (width ≡ 4))
-
-abbrev pub IsForm : Form → Type 0
-IsForm (form.Literal value) = value < 64
-IsForm (form.Index x) = x < 16
-IsForm (form.Register n) = n < 16
-IsForm (form.Deferred n) = n < 16
-IsForm (form.Decrement n) = n < 16
-IsForm (form.Increment n) = n < 16
-IsForm (form.IncrementDeferred n) = n < 16
-IsForm (form.Displacement width n) = IsDisplacement width × (n < 16)
-IsForm (form.DisplacementDeferred width n) = IsDisplacement width × (n < 16)
-
 abbrev pub decoded_seen : Decoded → Listing
 decoded_seen d = record { length = d.length; text = d.text.bytes }
 

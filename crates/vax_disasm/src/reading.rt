@@ -2,12 +2,12 @@
 
 ghost use Rattle.std.specs.Prelude.{◌≡◌, ◌+◌, ◌<◌, ◌≤◌, ◌^◌, length, option_map, IfSome};
 ghost use Rattle.vax_isa.specs.Rows.{IsKind, IsWidth, IsBranchWidth};
-ghost use Rattle.vax_flat.specs.Operand.{form_of, extended, is_reserved, is_no_base, is_result};
+ghost use Rattle.vax_flat.specs.Form.{IsForm, IsDisplacement};
 ghost use Rattle.vax_flat.specs.Grammar.{value_of_bytes, placed, based, unindexed, incremented, in_a_register, read_form, read_specifier, read_displacement, read_operand};
-ghost use Rattle.vax_disasm.specs.Seen.{width_of, read_seen, specifier_seen, place_seen, found, number_at, placed_by, at_place, bytes_before, literal_reading, IsForm, IsDisplacement, HasPlaceRegisters, IsSound};
+ghost use Rattle.vax_disasm.specs.Seen.{width_of, read_seen, specifier_seen, place_seen, found, number_at, placed_by, at_place, bytes_before, literal_reading, HasPlaceRegisters, IsSound};
 
 use crate::specifier::{Place, Specifier};
-use vax_flat::Form;
+use vax_flat::{Form, decode, extend, is_no_base, is_reserved};
 use vax_isa::{Letter, Narrow, OperandKind};
 
 /// An operand, and how many bytes it has.
@@ -43,44 +43,6 @@ fn number(width: u8, bytes: &[u8]) -> Option<u64>
         Some(number_of(&bytes[..width as usize]))
     } else {
         None
-    }
-}
-
-/// A specifier byte's form.
-#[tactic(auto, unfolding(vax_flat::specs::Operand::form_of))]
-fn form_of(byte: u8) -> Form
-    ensures form { result ≡ form_of byte }
-    ensures sound { IsForm result }
-{
-    let register = byte & 15;
-    match byte >> 4 {
-        0 | 1 | 2 | 3 => Form::Literal(byte),
-        4 => Form::Index(register),
-        5 => Form::Register(register),
-        6 => Form::Deferred(register),
-        7 => Form::Decrement(register),
-        8 => Form::Increment(register),
-        9 => Form::IncrementDeferred(register),
-        10 => Form::Displacement { width: 1, register },
-        11 => Form::DisplacementDeferred { width: 1, register },
-        12 => Form::Displacement { width: 2, register },
-        13 => Form::DisplacementDeferred { width: 2, register },
-        14 => Form::Displacement { width: 4, register },
-        _ => Form::DisplacementDeferred { width: 4, register },
-    }
-}
-
-/// A displacement of 1, 2 or 4 bytes, as 32 bits.
-#[tactic(auto, unfolding(vax_flat::specs::Operand::extended))]
-fn extend(width: u8, value: u64) -> u32
-    requires width { IsDisplacement width }
-    requires fits { value < 256 ^ width }
-    ensures { result ≡ extended width value }
-{
-    match width {
-        1 if value >= 0x80 => value as u32 + 0xffff_ff00,
-        2 if value >= 0x8000 => value as u32 + 0xffff_0000,
-        _ => value as u32,
     }
 }
 
@@ -163,45 +125,6 @@ fn placed(form: Form, index: Option<u8>, bytes: &[u8]) -> Option<Read>
     }
 }
 
-fn is_result(letter: Letter) -> bool
-    ensures { result ≡ is_result letter }
-{
-    match letter {
-        Letter::Modify | Letter::Write | Letter::Branch => true,
-        Letter::Read | Letter::Address | Letter::Field => false,
-    }
-}
-
-/// Whether a memory form with PC has no meaning for an operand.
-#[tactic(auto, unfolding(vax_flat::specs::Operand::is_reserved))]
-fn is_reserved(letter: Letter, form: Form) -> bool
-    ensures { result ≡ is_reserved letter form }
-{
-    match form {
-        Form::Deferred(n) => n == 15,
-        Form::Decrement(n) => n == 15,
-        Form::Increment(n) => n == 15 && is_result(letter),
-        Form::Literal(_) | Form::Index(_) | Form::Register(_) => false,
-        Form::IncrementDeferred(_) | Form::Displacement { .. } => false,
-        Form::DisplacementDeferred { .. } => false,
-    }
-}
-
-/// Whether a form is no base for an index by register `x`.
-#[tactic(auto, unfolding(vax_flat::specs::Operand::is_no_base))]
-fn is_no_base(x: u8, form: Form) -> bool
-    ensures { result ≡ is_no_base x form }
-{
-    match form {
-        Form::Literal(_) | Form::Index(_) | Form::Register(_) => true,
-        Form::Deferred(n) => n == 15,
-        Form::Decrement(n) => n == 15 || n == x,
-        Form::Increment(n) => n == 15 || n == x,
-        Form::IncrementDeferred(n) => n == x,
-        Form::Displacement { .. } | Form::DisplacementDeferred { .. } => false,
-    }
-}
-
 /// The base of an index by register `x`.
 #[tactic(auto, unfolding(vax_flat::specs::Grammar::based))]
 fn based(x: u8, bytes: &[u8]) -> Option<Read>
@@ -210,7 +133,7 @@ fn based(x: u8, bytes: &[u8]) -> Option<Read>
     ensures sound { IfSome result IsSound }
 {
     let (byte, rest) = bytes.split_first()?;
-    let form = form_of(*byte);
+    let form = decode(*byte);
     if is_no_base(x, form) {
         return None;
     }
@@ -293,7 +216,7 @@ fn read_specifier(kind: OperandKind, bytes: &[u8]) -> Option<Read>
     ensures sound { IfSome result IsSound }
 {
     let (byte, rest) = bytes.split_first()?;
-    let form = form_of(*byte);
+    let form = decode(*byte);
     match form {
         Form::Literal(value) => literal(kind.letter, value),
         Form::Index(x) => {

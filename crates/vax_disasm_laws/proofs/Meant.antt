@@ -24,7 +24,7 @@ use Rattle.vax_asm_encode.specs.Fields.{filled, half, displacement, reached, num
 use Rattle.vax_asm_statement.specs.Sizes.{sized}
 use Rattle.vax_asm_second.specs.Laid.{held}
 use Rattle.vax_asm_instruction.specs.Stating.{zero_value}
-use Rattle.vax_disasm.specs.Seen.{IsDisplacement}
+use Rattle.vax_flat.specs.Form.{IsDisplacement}
 use Rattle.vax_disasm_laws.proofs.Readings.{IsExtended, base_form, PlaceMay, May}
 use Rattle.vax_disasm_laws.proofs.Moded.{narrow_of, signed_value, place_mode, small_signed, high_signed}
 

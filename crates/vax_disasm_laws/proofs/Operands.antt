@@ -6,7 +6,7 @@ use Rattle.std.proofs.lemmas.Bool.Decides.{nat_tests}
 use Rattle.vax_isa.specs.declared.actions.Narrow.TheVariants as narrow
 use Rattle.vax_lex.specs.declared.token.Token.{Token}
 use Rattle.vax_flat.specs.Grammar.{Place, Deferred, Decrement, Increment, IncrementDeferred, Absolute, Displaced, DisplacedDeferred}
-use Rattle.vax_disasm.specs.Seen.{IsDisplacement}
+use Rattle.vax_flat.specs.Form.{IsDisplacement}
 use Rattle.vax_asm_statement.specs.Modes.{enclosed_last, operand_of}
 use Rattle.vax_disasm_laws.proofs.Words.{Word, tokens_at, AreThere}
 use Rattle.vax_disasm_laws.proofs.Spoken.{sign, register, letter, number, enclosed_words, signed_words, letter_of, displaced_words, place_words}

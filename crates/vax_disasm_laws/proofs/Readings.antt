@@ -14,7 +14,7 @@ use Rattle.vax_flat.specs.Operand.{form_of, extended, reaches_pc, is_reserved, i
 use Rattle.vax_flat.specs.Grammar.{Place, Deferred, Decrement, Increment, IncrementDeferred, Absolute, Displaced, DisplacedDeferred, Specifier, Literal, Register, Immediate, InMemory, Indexed, BranchBy, Reading, Reads, Reserved, value_of_bytes, piece, placed, based, unindexed, incremented, is_read, takes_register, in_a_register, read_form, read_specifier, read_displacement, read_operand}
 use Rattle.vax_asm_encode.specs.Operands.{takes_branch}
 use Rattle.vax_asm_encode.specs.Bytes.{low_bytes, displacement_mode, place_bytes, bytes_of}
-use Rattle.vax_disasm.specs.Seen.{IsDisplacement}
+use Rattle.vax_flat.specs.Form.{IsDisplacement}
 use Rattle.vax_disasm.proofs.Numbers.{value_below}
 
 -- bytes are numbers below 256

@@ -6,6 +6,7 @@ pub mod Outcome
 pub mod OverPort
 pub mod Inside
 pub mod Operand
+pub mod Form
 pub mod Quiet
 pub mod Rows
 pub mod Delivery

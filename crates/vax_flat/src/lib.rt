@@ -8,6 +8,7 @@
 #![tactic(auto)]
 
 mod laws;
+mod specifier;
 mod string_laws;
 
 pub use crate::laws::{
@@ -15,6 +16,7 @@ pub use crate::laws::{
     joined_ranges, operands_are_listed, parts_agree, results_agree, steps_are_bounded,
     stops_for_missing_pages,
 };
+pub use crate::specifier::{decode, extend, is_no_base, is_reserved, reaches_pc};
 pub use crate::string_laws::{
     comparisons_agree, escapes_agree, matches_agree, moves_agree, searches_agree,
 };

@@ -1,4 +1,3 @@
-pub mod Form
 pub mod Located
 pub mod Addressed
 pub mod Working

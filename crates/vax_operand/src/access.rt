@@ -10,11 +10,11 @@ ghost use Rattle.vax_flat.specs.Rows.{read_of, write_of, value_at, value_of, add
 ghost use Rattle.vax_undo.specs.Transaction.{room, Keeps, Acts, Does, Updates};
 ghost use Rattle.vax_operand.specs.Addressed.{located, checked, modified, modified_there, IsMemory};
 ghost use Rattle.vax_flat.specs.declared.Form.TheVariants as form;
-ghost use Rattle.vax_operand.specs.Form.{IsDisplacement};
+ghost use Rattle.vax_flat.specs.Form.{IsDisplacement};
 
 use crate::memory::{check, fetch, read, write};
-use crate::specifier::{address_near, extend, next, reaches_pc, value_in};
-use vax_flat::{Cut, Exception, Operand};
+use crate::specifier::{address_near, next, value_in};
+use vax_flat::{Cut, Exception, Operand, extend, reaches_pc};
 use vax_isa::{Letter, Narrow, OperandKind};
 use vax_space::Access;
 use vax_undo::{CutShort, Port, Txn};

@@ -17,7 +17,7 @@ pub use crate::access::{
 };
 pub use crate::memory::{check, fetch, is_allowed, read, read_in, write, write_in};
 pub use crate::results::{answer, push, set_codes, settle};
-pub use crate::specifier::{decode, extend, is_no_base, is_reserved, next, reaches_pc};
+pub use crate::specifier::next;
 pub use crate::worker::Worker;
-pub use vax_flat::{Cut, Flow, Operand};
+pub use vax_flat::{Cut, Flow, Operand, decode, extend, is_no_base, is_reserved, reaches_pc};
 pub use vax_undo::CutShort;

@@ -3,7 +3,7 @@ ghost use Rattle.std.specs.Prelude.{◌≡◌, ◌<◌, IfSome, slice_set};
 ghost use Rattle.vax_flat.specs.declared.Form.TheVariants as form;
 ghost use Rattle.vax_flat.specs.Operand.{form_of, addressed, IsWidth};
 ghost use Rattle.vax_operand.specs.Addressed.{direct, based, prefixed, located};
-ghost use Rattle.vax_operand.specs.Form.{IsForm};
+ghost use Rattle.vax_flat.specs.Form.{IsForm};
 ghost use Rattle.vax_quick.specs.Made.{Gives, IsKept, IsSeen, Reads, computer};
 
 use crate::memory::read;

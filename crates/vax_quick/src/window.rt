@@ -1,7 +1,7 @@
 //! The bytes of an instruction, seen at once.
 ghost use Rattle.std.specs.Prelude.{◌≡◌, ◌-◌, ◌/◌, ◌%◌, ◌^◌, ◌<◌, ◌≤◌, IfSome, None};
 ghost use Rattle.vax_flat.specs.Operand.{fetched};
-ghost use Rattle.vax_operand.specs.Form.{IsDisplacement};
+ghost use Rattle.vax_flat.specs.Form.{IsDisplacement};
 ghost use Rattle.vax_quick.specs.Made.{Gives, GoesOn, IsKept, IsMoved, IsSeen, Reads, computer};
 
 use vax_undo::Port;

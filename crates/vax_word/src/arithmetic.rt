@@ -137,7 +137,7 @@ pub fn sub(size: Size, a: u64, b: u64, borrow: bool) -> (u64, Codes)
 }
 
 /// The low bits of the signed product, at `B`, `W` or `L` (MUL). V where it does not fit, C 0.
-#[inline]
+#[inline(always)]
 #[tactic(auto, unfolding(crate::specs::Arithmetic::product))]
 pub fn mul(size: Size, a: u64, b: u64) -> (u64, Codes)
     requires short { size ≢ Size.Q }
@@ -169,7 +169,7 @@ pub fn div(size: Size, divd: u64, divr: u64) -> (u64, Codes)
 
 /// `value` shifted arithmetically (ASH): times 2 to `count`, or, where `count` is negative, divided by
 /// 2 to `-count` and rounded down. V where the product does not fit, C 0.
-#[inline]
+#[inline(always)]
 pub fn shift(size: Size, count: i8, value: u64) -> (u64, Codes)
     requires fits { value < 256 ^ bytes_of size }
     ensures exact { result ≡ shifted size count value }
@@ -189,7 +189,7 @@ pub fn shift(size: Size, count: i8, value: u64) -> (u64, Codes)
 }
 
 /// The signed number that `value` is at size `from`, at size `to` (CVT). V where it does not fit, C 0.
-#[inline]
+#[inline(always)]
 #[tactic(auto, unfolding(crate::specs::Arithmetic::converted))]
 pub fn convert(from: Size, to: Size, value: u64) -> (u64, Codes)
     requires fits { value < 256 ^ bytes_of from }
