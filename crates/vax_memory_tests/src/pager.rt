@@ -362,6 +362,29 @@ fn runs(rt: HostRuntime) -> Result<(), Fail> {
     Ok(())
 }
 
+/// What is known at once of a page: nothing before it was read, and that it may be written only after it was.
+#[test]
+fn at_once(rt: HostRuntime) -> Result<(), Fail> {
+    let mut pager = pager(rt.alloc())?;
+    let mut file = pages(rt.alloc(), Vec::new(rt.alloc()))?;
+    fill(&rt, &mut pager, &mut file, 0, 1);
+    assert!(rt; pager.read(0, 2, USER) == Ok(0x0201));
+    assert!(rt; pager.glance(1, 2, USER, Access::Read) == Some(0x0302));
+    assert!(rt; pager.glance(1, 2, USER, Access::Write) == None);
+    assert!(rt; !pager.write_at_once(1, 1, 7, USER));
+    assert!(rt; pager.write(1, 1, 7, USER) == Ok(2));
+    assert!(rt; pager.glance(1, 1, USER, Access::Read) == None);
+    assert!(rt; pager.read(1, 1, USER) == Ok(7));
+    assert!(rt; pager.glance(1, 1, USER, Access::Write) == Some(7));
+    assert!(rt; pager.write_at_once(2, 1, 8, USER));
+    assert!(rt; pager.read(0, 4, USER) == Ok(0x0008_0701));
+    assert!(rt; pager.frame_of_code(0x200, USER) == None);
+    if let Some(frame) = pager.frame_of_code(3, USER) {
+        assert!(rt; pager.code_in(frame, 0, 1, USER) == Some(0x0807));
+    }
+    Ok(())
+}
+
 /// Writes bytes whatever the protection of their pages, by a pager with as many frames as any has.
 fn poke(
     rt: &impl Abort,

@@ -50,6 +50,10 @@ fn at_once(rt: HostRuntime) -> Result<(), Fail> {
     };
     assert!(rt; buffer.walk(2, &tables) == want);
     assert!(rt; buffer.frame_at_once(2, 3, Access::Read) == Some(9));
+    assert!(rt; buffer.hits() == 1);
+    assert!(rt; buffer.seen_at_once(2, 3, Access::Read) == Some(9));
+    assert!(rt; buffer.seen_at_once(2, 3, Access::Write) == None);
+    assert!(rt; buffer.hits() == 1);
     assert!(rt; buffer.frame_at_once(2, 0, Access::Write) == None);
     assert!(rt; buffer.frame_at_once(0x82, 0, Access::Read) == None);
     buffer.forget(2);

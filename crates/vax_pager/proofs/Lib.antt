@@ -9,6 +9,7 @@ pub mod Effects
 pub mod Start
 pub mod Views
 pub mod Walking
+pub mod Keeping
 pub mod Writes
 pub mod Writable
 pub mod Apart

@@ -1,10 +1,10 @@
 -- The parts of a pager, and what they mean.
-use Rattle.std.specs.Prelude.{ℕ, ◌≡◌, ◌≢◌, ◌+◌, ◌<◌, ◌≤◌, Bool, true, false, if◌then◌else◌, Option, Some, None, is_some, List, [], ◌++◌, take, drop, ◌-◌, ◌%◌, slice_index, slice_index_or, length}
+use Rattle.std.specs.Prelude.{ℕ, ◌≡◌, ◌≢◌, ◌+◌, ◌^◌, ◌<◌, ◌≤◌, Bool, true, false, if◌then◌else◌, Option, Some, None, is_some, List, [], ◌++◌, take, drop, ◌-◌, ◌%◌, slice_index, slice_index_or, length}
 use Rattle.vax_space.specs.Areas.{block_of, prot_of}
 use Rattle.vax_space.specs.declared.Access.{Access}
-use Rattle.vax_space.specs.declared.Access.TheVariants.{Write}
+use Rattle.vax_space.specs.declared.Access.TheVariants.{Read, Write}
 use Rattle.vax_space.specs.Faults.{IsSpace}
-use Rattle.vax_space.specs.Reference.{page_of}
+use Rattle.vax_space.specs.Reference.{may_access, page_of}
 use Rattle.vax_outside.specs.Faults.{raised}
 use Rattle.vax_table.specs.declared.Walk.{Walk}
 use Rattle.vax_table.specs.Mapping.{frame_of, is_inside, is_resident, prot_said}
@@ -95,6 +95,13 @@ pub record IsFrame (addr n mode : ℕ) (access : Access) (frame : ℕ) (old new 
   pub marked : access ≡ Write → is_listed (page_of addr) (paging old).modified ≡ true
   pub resident : is_listed (page_of addr) (paging old).order ≡ true
   pub entry : is_some (buffered new.buffer (page_of addr)) ≡ true
+
+-- a page is resident in a frame, and the mode may read it
+pub record LiesIn (s : Store) (frame page mode : ℕ) : Type 0 where
+  pub held : held s page ≡ Some frame
+  pub resident : is_listed page (paging s).order ≡ true
+  pub may : may_access (paging s).areas page mode Read ≡ true
+  pub low : page < 2 ^ 23
 
 -- all of it, with so many frames that no page has
 pub record IsSound (spare : ℕ) (s : Store) : Type 0 where

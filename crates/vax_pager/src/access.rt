@@ -1,5 +1,5 @@
 //! Reads and writes of resident pages.
-ghost use Rattle.std.specs.Prelude.{◌≡◌, ◌+◌, ◌-◌, ◌<◌, ◌≤◌, ◌%◌, false, true, length, is_some, IfNone, IfSome, OnErr, OnOk, Some, None};
+ghost use Rattle.std.specs.Prelude.{◌≡◌, ◌+◌, ◌-◌, ◌*◌, ◌^◌, ◌<◌, ◌≤◌, ◌%◌, false, true, length, is_some, IfNone, IfSome, OnErr, OnOk, Ok, Some, None};
 ghost use Rattle.vax_table.specs.Mapping.{frame_of};
 
 use crate::store::Store;
@@ -31,13 +31,13 @@ impl Store {
     ghost use Rattle.vax_tb.specs.Meaning.{buffered};
     ghost use Rattle.vax_tb.specs.Buffer.{raised_if};
     ghost use Rattle.vax_flat.specs.Memory.{bytes_from, number};
-    ghost use Rattle.vax_flat.specs.Port.{AreBytes, loaded, stop, stored, stored_run};
+    ghost use Rattle.vax_flat.specs.Port.{AreBytes, loaded, stop, stored, stored_run, with_number};
     ghost use Rattle.vax_undo.specs.Answers.{err_of, replaced};
     ghost use Rattle.vax_undo.specs.Blocks.{low_bytes};
     ghost use Rattle.vax_pager.specs.Listing.{is_listed};
     ghost use Rattle.vax_pager.specs.Paging.{loaded_allowed, stored_allowed, view_of};
     ghost use Rattle.vax_pager.specs.Steps.{OnlyWritten, touched, touched_page};
-    ghost use Rattle.vax_pager.specs.Store.{CountsHit, IsFrame, IsSound, held, paging, with_bytes};
+    ghost use Rattle.vax_pager.specs.Store.{CountsHit, IsFrame, IsSound, LiesIn, held, paging, with_bytes};
 
     /// The frame of a page, where it is resident. Its entry is in the buffer afterwards.
     #[inline]
@@ -62,6 +62,7 @@ impl Store {
         requires of_mode { mode ≤ 3 }
         ensures sound { IsSound 0 self.new }
         ensures paging { paging self.new ≡ paging self.old }
+        ensures held { held self.new ≡ held self.old }
         ensures frame { IfSome result
             (λ frame. IsFrame addr n mode access frame self.old self.new) }
         ensures entries { buffered self.new.buffer ≡ buffered self.old.buffer }
@@ -73,13 +74,27 @@ impl Store {
         self.buffer.frame_at_once(addr / PAGE_BYTES, mode, access)
     }
 
-    /// The same of a page that has no entry in the buffer, by the tables: its entry is there afterwards.
+    /// The same frame, but it counts as no hit.
+    #[inline(always)]
+    fn seen_at_once(&self, addr: u32, n: u32, mode: u8, access: Access) -> Option<u32>
+        requires sound { IsSound 0 self.now }
+        requires of_mode { mode ≤ 3 }
+        ensures { IfSome result (λ frame. IsFrame addr n mode access frame self.now self.now) }
+    {
+        if n > PAGE_BYTES - addr % PAGE_BYTES {
+            return None;
+        }
+        self.buffer.seen_at_once(addr / PAGE_BYTES, mode, access)
+    }
+
+    /// The frame of such a range whose page has no entry in the buffer, by the tables: its entry is there afterwards.
     #[inline(always)]
     fn frame_by_walk(&mut self, addr: u32, n: u32, mode: u8, access: Access) -> Option<u32>
         requires sound { IsSound 0 self.old }
         requires of_mode { mode ≤ 3 }
         ensures sound { IsSound 0 self.new }
         ensures paging { paging self.new ≡ paging self.old }
+        ensures held { held self.new ≡ held self.old }
         ensures frame { IfSome result
             (λ frame. IsFrame addr n mode access frame self.old self.new) }
         ensures left { IfNone result (buffered self.new.buffer ≡ buffered self.old.buffer) }
@@ -155,6 +170,7 @@ impl Store {
         ensures number { result ≡ number (view_of (paging self.old)).byte addr n }
         ensures sound { IsSound 0 self.new }
         ensures paging { paging self.new ≡ with_bytes addr (low_bytes n value) (paging self.old) }
+        ensures held { held self.new ≡ held self.old }
     {
         let old = self.number_in(frame, addr, n);
         self.put_number(frame, addr, n, value);
@@ -172,6 +188,7 @@ impl Store {
         ensures number { result ≡ number (view_of (paging self.old)).byte addr n }
         ensures sound { IsSound 0 self.new }
         ensures paging { paging self.new ≡ with_bytes addr (low_bytes n value) (paging self.old) }
+        ensures held { held self.new ≡ held self.old }
     {
         match n {
             4 => self.exchange_bytes(frame, addr, 4, value),
@@ -217,6 +234,7 @@ impl Store {
         requires of_mode { mode ≤ 3 }
         ensures sound { IsSound 0 self.new }
         ensures paging { paging self.new ≡ paging self.old }
+        ensures held { held self.new ≡ held self.old }
         ensures answer { result ≡ loaded (view_of (paging self.old)) addr n mode }
         ensures entry { OnOk result (addr % 512 + n ≤ 512
             → is_some (buffered self.new.buffer (page_of addr)) ≡ true) }
@@ -238,6 +256,7 @@ impl Store {
         requires of_mode { mode ≤ 3 }
         ensures sound { IsSound 0 self.new }
         ensures paging { paging self.new ≡ paging self.old }
+        ensures held { held self.new ≡ held self.old }
         ensures answer { result ≡ loaded (view_of (paging self.old)) addr n mode }
         ensures entry { OnOk result (addr % 512 + n ≤ 512
             → is_some (buffered self.new.buffer (page_of addr)) ≡ true) }
@@ -258,6 +277,7 @@ impl Store {
         requires of_mode { mode ≤ 3 }
         ensures sound { IsSound 0 self.new }
         ensures paging { paging self.new ≡ paging self.old }
+        ensures held { held self.new ≡ held self.old }
         ensures answer { result ≡ loaded (view_of (paging self.old)) addr n mode }
         ensures entry { OnOk result (addr % 512 + n ≤ 512
             → is_some (buffered self.new.buffer (page_of addr)) ≡ true) }
@@ -282,6 +302,7 @@ impl Store {
         requires apart { 512 < addr % 512 + n }
         ensures sound { IsSound 0 self.new }
         ensures paging { paging self.new ≡ paging self.old }
+        ensures held { held self.new ≡ held self.old }
         ensures answer { result ≡ loaded_allowed (view_of (paging self.old)) addr n }
     {
         let first = PAGE_BYTES - addr % PAGE_BYTES;
@@ -332,6 +353,7 @@ impl Store {
         requires of_mode { mode ≤ 3 }
         ensures sound { IsSound 0 self.new }
         ensures paging { paging self.new ≡ paging self.old }
+        ensures held { held self.new ≡ held self.old }
         ensures answer { err_of result
             ≡ stop (view_of (paging self.old)) addr (length into.old) mode Access.Read }
         ensures bytes { OnOk result
@@ -368,6 +390,7 @@ impl Store {
             ((paging self.new).modified ≡ touched (paging self.old).modified addr n) }
         ensures unpaged { OnErr result (paging self.new ≡ paging self.old) }
         ensures only { OnlyWritten (paging self.old) (paging self.new) }
+        ensures held { held self.new ≡ held self.old }
     {
         if let Some(frame) = self.frame_at_once(addr, n, mode, Access::Write) {
             let old = self.number_in(frame, addr, n);
@@ -392,6 +415,7 @@ impl Store {
             ((paging self.new).modified ≡ touched (paging self.old).modified addr n) }
         ensures unpaged { OnErr result (paging self.new ≡ paging self.old) }
         ensures only { OnlyWritten (paging self.old) (paging self.new) }
+        ensures held { held self.new ≡ held self.old }
     {
         if let Some(frame) = self.frame_by_walk(addr, n, mode, Access::Write) {
             return Ok(self.exchange(frame, addr, n, value));
@@ -414,6 +438,7 @@ impl Store {
             ((paging self.new).modified ≡ touched (paging self.old).modified addr n) }
         ensures unpaged { OnErr result (paging self.new ≡ paging self.old) }
         ensures only { OnlyWritten (paging self.old) (paging self.new) }
+        ensures held { held self.new ≡ held self.old }
     {
         if let Err(violation) = self.check(addr, n, mode, Access::Write) {
             return Err(Stop::Violated(violation));
@@ -448,6 +473,7 @@ impl Store {
             ((paging self.new).modified ≡ touched (paging self.old).modified addr n) }
         ensures unpaged { OnErr result (paging self.new ≡ paging self.old) }
         ensures only { OnlyWritten (paging self.old) (paging self.new) }
+        ensures held { held self.new ≡ held self.old }
     {
         let first = PAGE_BYTES - addr % PAGE_BYTES;
         let next = addr.wrapping_add(first);
@@ -481,6 +507,7 @@ impl Store {
             ≡ touched (paging self.old).modified addr (length from.now)) }
         ensures unpaged { OnErr result (paging self.new ≡ paging self.old) }
         ensures only { OnlyWritten (paging self.old) (paging self.new) }
+        ensures held { held self.new ≡ held self.old }
     {
         if let Err(violation) = self.check(addr, from.len() as u32, mode, Access::Write) {
             return Err(Stop::Violated(violation));
@@ -493,5 +520,81 @@ impl Store {
             }
             None => Err(Stop::NotResident(addr / PAGE_BYTES)),
         }
+    }
+
+    /// The number that `n` bytes are, 1 to 8, if they lie within a page that the buffer has and to which the mode may make the access at
+    /// once. It counts as no hit.
+    #[inline(always)]
+    #[tactic(auto, using(crate::proofs::Views::are_bytes))]
+    pub(crate) fn glance(&self, addr: u32, n: u32, mode: u8, access: Access) -> Option<u64>
+        requires sound { IsSound 0 self.now }
+        requires some { 1 ≤ n }
+        requires few { n ≤ 8 }
+        requires of_mode { mode ≤ 3 }
+        ensures answer { IfSome result
+            (λ x. loaded (view_of (paging self.now)) addr n mode ≡ Ok x) }
+        ensures free { IfSome result
+            (λ x. stop (view_of (paging self.now)) addr n mode access ≡ None) }
+        ensures bytes { AreBytes (view_of (paging self.now)).byte }
+    {
+        let frame = self.seen_at_once(addr, n, mode, access)?;
+        Some(self.number_in(frame, addr, n))
+    }
+
+    /// Writes the `n` bytes of a number, 1 to 8, if they lie within a modified page that the buffer has and that the mode may write, and
+    /// says whether it did. It counts as no hit.
+    #[inline(always)]
+    pub(crate) fn write_at_once(&mut self, addr: u32, n: u32, value: u64, mode: u8) -> bool
+        requires sound { IsSound 0 self.old }
+        requires some { 1 ≤ n }
+        requires few { n ≤ 8 }
+        requires of_mode { mode ≤ 3 }
+        ensures sound { IsSound 0 self.new }
+        ensures free { result ≡ true
+            → stop (view_of (paging self.old)) addr n mode Access.Write ≡ None }
+        ensures stored { result ≡ true → view_of (paging self.new)
+            ≡ with_number (view_of (paging self.old)) addr n value }
+        ensures same { result ≡ false → paging self.new ≡ paging self.old }
+        ensures only { OnlyWritten (paging self.old) (paging self.new) }
+        ensures held { held self.new ≡ held self.old }
+    {
+        match self.seen_at_once(addr, n, mode, Access::Write) {
+            Some(frame) => {
+                self.put_number(frame, addr, n, value);
+                true
+            }
+            None => false,
+        }
+    }
+
+    /// The frame of the page that an address lies in, if it is resident and the mode may read it, by the buffer or else the tables. It
+    /// counts as no hit. None says nothing of the page.
+    #[inline]
+    pub(crate) fn frame_of_code(&mut self, addr: u32, mode: u8) -> Option<u32>
+        requires sound { IsSound 0 self.old }
+        requires of_mode { mode ≤ 3 }
+        ensures sound { IsSound 0 self.new }
+        ensures paging { paging self.new ≡ paging self.old }
+        ensures held { held self.new ≡ held self.old }
+        ensures lies { IfSome result (λ frame. LiesIn self.new frame (page_of addr) mode) }
+    {
+        if let Some(frame) = self.seen_at_once(addr, 1, mode, Access::Read) {
+            return Some(frame);
+        }
+        self.frame_by_walk(addr, 1, mode, Access::Read)
+    }
+
+    /// The number that eight bytes of a page are, which is in this frame.
+    #[inline(always)]
+    pub(crate) fn code_in(&self, frame: u32, page: u32, place: u32) -> u64
+        requires sound { IsSound 0 self.now }
+        requires low { page < 2 ^ 23 }
+        requires within { place ≤ 504 }
+        requires held { held self.now page ≡ Some frame }
+        ensures { result ≡ number (view_of (paging self.now)).byte (page * 512 + place) 8 }
+    {
+        let _ = page;
+        let place = place as usize;
+        number_of(&self.frames[frame as usize][place..place + 8])
     }
 }

@@ -14,12 +14,14 @@ impl Port for Pager {
     ghost use Rattle.vax_undo.specs.Answers.{err_of, replaced};
     ghost use Rattle.vax_undo.specs.Trail.{NoneKept, after_reading, after_writing, after_writing_run};
     ghost use Rattle.vax_pager.specs.Steps.{touched};
-    ghost use Rattle.vax_pager.specs.Meaning.{hits, in_buffer, pages, since, view};
+    ghost use Rattle.vax_pager.specs.Meaning.{Since, hits, in_buffer, lies_in, pages, view};
     ghost use Rattle.vax_pager.specs.declared.pager.Pager.{Pager};
 
     ghost view = { view };
 
-    ghost since = { since };
+    ghost since = { Since };
+
+    ghost lies_in = { lies_in };
 
     #[inline]
     fn check(&self, addr: u32, len: u32, mode: u8, access: Access) -> Result<(), Violation> {
@@ -36,7 +38,7 @@ impl Port for Pager {
         ensures same { view self.new ≡ view self.old }
         ensures bytes { AreBytes (view self.old).byte }
         ensures trail { NoneKept ≡ after_reading (view self.old) NoneKept addr n mode }
-        ensures since { (start : Pager) → since start self.old → since start self.new }
+        ensures since { (start : Pager) → Since start self.old → Since start self.new }
         ensures unchanged { pages self.new ≡ pages self.old }
         ensures entry { OnOk result (addr % 512 + n ≤ 512
             → in_buffer self.new (page_of addr) ≡ true) }
@@ -57,7 +59,7 @@ impl Port for Pager {
         ensures bytes { AreBytes (view self.old).byte }
         ensures stored { view self.new ≡ stored (view self.old) addr n value mode }
         ensures trail { NoneKept ≡ after_writing (view self.old) NoneKept addr n value mode }
-        ensures since { (start : Pager) → since start self.old → since start self.new }
+        ensures since { (start : Pager) → Since start self.old → Since start self.new }
         ensures listed { OnOk result
             ((pages self.new).modified ≡ touched (pages self.old).modified addr n) }
         ensures unpaged { OnErr result (pages self.new ≡ pages self.old) }
@@ -78,7 +80,7 @@ impl Port for Pager {
         ensures same { view self.new ≡ view self.old }
         ensures trail { NoneKept
             ≡ after_reading (view self.old) NoneKept addr (length into.old) mode }
-        ensures since { (start : Pager) → since start self.old → since start self.new }
+        ensures since { (start : Pager) → Since start self.old → Since start self.new }
         ensures unchanged { pages self.new ≡ pages self.old }
     {
         self.store.read_run(addr, into, mode)
@@ -93,11 +95,32 @@ impl Port for Pager {
             ≡ stop (view self.old) addr (length from.now) mode Access.Write }
         ensures stored { view self.new ≡ stored_run (view self.old) addr from.now mode }
         ensures trail { NoneKept ≡ after_writing_run (view self.old) NoneKept addr from.now mode }
-        ensures since { (start : Pager) → since start self.old → since start self.new }
+        ensures since { (start : Pager) → Since start self.old → Since start self.new }
         ensures listed { OnOk result
             ((pages self.new).modified ≡ touched (pages self.old).modified addr (length from.now)) }
         ensures unpaged { OnErr result (pages self.new ≡ pages self.old) }
     {
         self.store.write_run(addr, from, mode)
+    }
+
+    #[inline(always)]
+    fn glance(&self, addr: u32, n: u32, mode: u8, access: Access) -> Option<u64> {
+        self.store.glance(addr, n, mode, access)
+    }
+
+    #[inline(always)]
+    fn write_at_once(&mut self, addr: u32, n: u32, value: u64, mode: u8) -> bool {
+        self.store.write_at_once(addr, n, value, mode)
+    }
+
+    #[inline]
+    fn frame_of_code(&mut self, addr: u32, mode: u8) -> Option<u32> {
+        self.store.frame_of_code(addr, mode)
+    }
+
+    #[inline(always)]
+    fn code_in(&self, frame: u32, page: u32, place: u32, mode: u8) -> Option<u64> {
+        let _ = mode;
+        Some(self.store.code_in(frame, page, place))
     }
 }

@@ -255,6 +255,17 @@ impl Buffer {
         ensures entries { buffered self.new ≡ buffered self.old }
         ensures hits { self.new.hits ≡ raised_if (is_some result) self.old.hits }
     {
+        let frame = self.seen_at_once(page, mode, access)?;
+        self.hits = self.hits.saturating_add(1);
+        Some(frame)
+    }
+
+    /// The same frame, but it counts as no hit.
+    #[inline(always)]
+    pub fn seen_at_once(&self, page: u32, mode: u8, access: Access) -> Option<u32>
+        requires of_mode { mode ≤ 3 }
+        ensures frame { result ≡ at_once (buffered self.now page) mode access }
+    {
         let entry = &self.entries[place_of(page)];
         if entry.page != page {
             return None;
@@ -262,9 +273,7 @@ impl Buffer {
         if !permits(entry.rights[mode as usize], access) {
             return None;
         }
-        let frame = entry.frame;
-        self.hits = self.hits.saturating_add(1);
-        Some(frame)
+        Some(entry.frame)
     }
 
     /// The frame of a page that has no entry, where the tables say that a mode may make an access at once. Then its

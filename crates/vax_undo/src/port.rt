@@ -1,8 +1,8 @@
 //! Memory in which pages may be absent.
-ghost use Rattle.std.specs.Prelude.{◌≡◌, ◌+◌, ◌%◌, ◌^◌, ◌<◌, ◌≤◌, length, OnOk, OnErr};
-ghost use Rattle.vax_space.specs.Reference.{violation};
+ghost use Rattle.std.specs.Prelude.{◌≡◌, ℕ, ◌+◌, ◌*◌, ◌%◌, ◌^◌, ◌<◌, ◌≤◌, length, true, false, Ok, None, IfSome, OnOk, OnErr};
+ghost use Rattle.vax_space.specs.Reference.{page_of, violation};
 ghost use Rattle.vax_flat.specs.Memory.{bytes_from};
-ghost use Rattle.vax_flat.specs.Port.{View, AreBytes, stop, loaded, stored, stored_run};
+ghost use Rattle.vax_flat.specs.Port.{View, AreBytes, stop, loaded, stored, stored_run, with_number};
 ghost use Rattle.vax_undo.specs.Answers.{err_of, replaced};
 ghost use Rattle.vax_undo.specs.Trail.{Trail, NoneKept, after_reading, after_writing, after_writing_run};
 
@@ -82,4 +82,68 @@ pub trait Port {
         ensures trail { trail self.new
             ≡ after_writing_run (view self.old) (trail self.old) addr from.now mode }
         ensures since { (start : Self) → since start self.old → since start self.new };
+
+    /// In this frame lies a page from which an instruction may be read in this access mode.
+    ghost lies_in: { Self → ℕ → ℕ → ℕ → Type 0 } = { λ port frame page mode. Unit {0} };
+
+    /// The number that `n` bytes are, 1 to 8, if their page's place is known already and this access may be made there. None says nothing.
+    #[inline(always)]
+    fn glance(&self, addr: u32, n: u32, mode: u8, access: Access) -> Option<u64>
+        requires some { 1 ≤ n }
+        requires few { n ≤ 8 }
+        requires of_mode { mode ≤ 3 }
+        ensures answer { IfSome result (λ x. loaded (view self.now) addr n mode ≡ Ok x) }
+        ensures free { IfSome result (λ x. stop (view self.now) addr n mode access ≡ None) }
+        ensures bytes { IfSome result (λ x. AreBytes (view self.now).byte) }
+        ensures unkept { IfSome result (λ x. trail self.now ≡ NoneKept) }
+    {
+        let _ = (addr, n, mode, access);
+        None
+    }
+
+    /// Writes the `n` bytes of a number, 1 to 8, if their page's place is known already and the page is marked, and says whether it did.
+    #[inline(always)]
+    fn write_at_once(&mut self, addr: u32, n: u32, value: u64, mode: u8) -> bool
+        requires some { 1 ≤ n }
+        requires few { n ≤ 8 }
+        requires of_mode { mode ≤ 3 }
+        requires fits { value < 256 ^ n }
+        ensures free { result ≡ true → stop (view self.old) addr n mode Access.Write ≡ None }
+        ensures stored { result ≡ true → view self.new ≡ with_number (view self.old) addr n value }
+        ensures same { result ≡ false → view self.new ≡ view self.old }
+        ensures unkept { result ≡ true → trail self.old ≡ NoneKept }
+        ensures trail { trail self.new ≡ trail self.old }
+        ensures since { (start : Self) → since start self.old → since start self.new }
+    {
+        let _ = (addr, n, value, mode);
+        false
+    }
+
+    /// The frame of the page that an address lies in, if an instruction may be read from it in this access mode, and if it is told.
+    #[inline(always)]
+    fn frame_of_code(&mut self, addr: u32, mode: u8) -> Option<u32>
+        requires of_mode { mode ≤ 3 }
+        ensures lies { IfSome result (λ frame. (start : Self)
+            × (lies_in start frame (page_of addr) mode × since start self.new)) }
+        ensures same { view self.new ≡ view self.old }
+        ensures trail { trail self.new ≡ trail self.old }
+        ensures since { (start : Self) → since start self.old → since start self.new }
+    {
+        let _ = (addr, mode);
+        None
+    }
+
+    /// The number that eight bytes of a page are, from the frame in which it lay at some time since which only calls of this trait were made.
+    /// None says nothing.
+    #[inline(always)]
+    fn code_in(&self, frame: u32, page: u32, place: u32, mode: u8) -> Option<u64>
+        requires lies { (start : Self) × (lies_in start frame page mode × since start self.now) }
+        requires within { place ≤ 504 }
+        ensures answer { IfSome result
+            (λ x. loaded (view self.now) (page * 512 + place) 8 mode ≡ Ok x) }
+        ensures bytes { IfSome result (λ x. AreBytes (view self.now).byte) }
+    {
+        let _ = (frame, page, place, mode);
+        None
+    }
 }

@@ -6,6 +6,7 @@ use Rattle.vax_cpu.proofs.Runs.{at_start, reaches}
 use Rattle.vax_cpu.specs.Attempt.{flat_of}
 use Rattle.vax_cpu.specs.declared.cpu.Cpu.{Cpu}
 use Rattle.vax_cpu.specs.Made.{Computer}
+use Rattle.vax_pager.proofs.Keeping.{only_since}
 use Rattle.vax_pager.proofs.Views.{only_itself}
 use Rattle.vax_pager.specs.Meaning.{pages}
 use Rattle.vax_pager.specs.Paging.{view_of}
@@ -38,4 +39,4 @@ returns-clause-steps c = λ closed memory output st.
     are_steps view m c.run.result new r cpu after refl refl
 
 pub returns-clause-written : goal.returns-clause-written
-returns-clause-written c = c.run.ensures.since c.args.pager.now (only_itself (pages c.args.pager.now))
+returns-clause-written c = only_since c.args.pager.now _ c.run.ensures.since

@@ -1,6 +1,6 @@
 use Rattle.std.proofs.Common.{ap, rules}
 use Rattle.std.specs.Prelude.{is_some}
-use Rattle.vax_pager.proofs.Views.{paging_buffer, sound_buffer}
+use Rattle.vax_pager.proofs.Views.{held_buffer, paging_buffer, sound_buffer}
 use Rattle.vax_pager.proofs.Walking.{walked_frame, walked_left}
 use Rattle.vax_pager.proofs.store.Store.frame_by_walk.Goals as goal
 
@@ -9,6 +9,9 @@ returns-clause-sound c = sound_buffer c.args.self.now c.frame_by_walk.new.self c
 
 pub returns-clause-paging : goal.returns-clause-paging
 returns-clause-paging c = paging_buffer c.args.self.now c.frame_by_walk.new.self
+
+pub returns-clause-held : goal.returns-clause-held
+returns-clause-held c = held_buffer c.args.self.now c.frame_by_walk.new.self
 
 pub returns-clause-frame : goal.returns-clause-frame
 returns-clause-frame c =

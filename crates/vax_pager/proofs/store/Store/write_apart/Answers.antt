@@ -79,6 +79,7 @@ returns c =
       listed = modified_apart s _ _ _ _ c.args.addr c.args.n first next low high h k;
       unpaged = tt;
       only = only_apart s _ _ _ _ c.args.addr c.args.n first next low high k;
+      held = c.put_run-2.ensures.held ∙ c.put_run.ensures.held ∙ c.touch-2.ensures.held ∙ c.touch.ensures.held ∙ c.in-Some-frame_of.ensures.frames ∙ c.in-Some.ensures.frames;
     }
 
 pub touch-requires-clause-resident : goal.touch-requires-clause-resident
