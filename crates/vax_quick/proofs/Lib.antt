@@ -7,3 +7,4 @@ pub mod Steps
 pub mod Frames
 pub mod Opcodes
 pub mod Working
+pub mod Coded

@@ -1,3 +1,4 @@
 pub mod Made
 pub mod Frames
 pub mod Fast
+pub mod Code

@@ -24,6 +24,10 @@ pub record IsSeen (view : View) (core : Core) (window : Window) : Type 0 where
   pub seen : loaded view (slice_index core.regs 15) window.left (mode_of core.psl) ≡ Ok window.bytes
   pub bytes : AreBytes view.byte
 
+-- the eight bytes from an opcode on
+abbrev pub eight : ℕ → Window
+eight bytes = record { bytes = bytes; left = 8 }
+
 -- a computer without its console: the registers, and what a port shows
 pub record Computer : Type 0 where
   pub core : Core

@@ -10,6 +10,7 @@ mod arms;
 mod bases;
 mod branches;
 mod call;
+mod code;
 mod control;
 mod fast;
 mod field;

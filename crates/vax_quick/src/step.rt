@@ -2,10 +2,11 @@
 ghost use Rattle.std.specs.Prelude.{◌≡◌, ◌≤◌, true, false};
 ghost use Rattle.vax_flat.specs.Instruction.{acted_part, acted_part_if, first_part};
 ghost use Rattle.vax_undo.specs.FirstPart.{first_part_done};
-ghost use Rattle.vax_quick.specs.Made.{IsSeen, IsStill, Leaves, Makes, MakesOrStays, MakesStep, MakesSteps, computer, made_by};
+ghost use Rattle.vax_quick.specs.Made.{IsSeen, IsStill, Leaves, Makes, MakesOrStays, MakesStep, MakesSteps, computer, eight, made_by};
 
+use crate::code::{Code, look_at_pc};
 use crate::results::unless_made;
-use crate::window::{Window, fetch, look};
+use crate::window::{Window, fetch};
 use crate::{arms, branches, call, control, field, integer};
 use vax_isa::{Action, action};
 use vax_undo::Port;
@@ -201,11 +202,12 @@ fn execute<P: Port>(core: &mut Core, port: &mut P, window: Window) -> Option<()>
     }
 }
 
-/// Makes the step at PC at once, where it can, and says whether it did. Where it didn't, nothing has changed.
+/// Makes the step at PC at once, if it can, and says whether it did. If it didn't, nothing has changed.
 #[inline(always)]
 #[tactic(auto, using(crate::proofs::Steps::still_on))]
-fn step<P: Port>(core: &mut Core, port: &mut P) -> bool
+fn step<P: Port>(core: &mut Core, port: &mut P, bytes: u64) -> bool
     requires still { IsStill core.old }
+    requires window { IsSeen (P.view port.old) core.old (eight bytes) }
     ensures made { result ≡ true → MakesStep
         (computer P.view core.old port.old) (computer P.view core.new port.new) }
     ensures none { result ≡ false
@@ -215,11 +217,7 @@ fn step<P: Port>(core: &mut Core, port: &mut P) -> bool
     ensures closed { first_part_done core.new.psl ≤ first_part_done core.old.psl }
     ensures since { (start : P) → P.since start port.old → P.since start port.new }
 {
-    let window = match look(core, port) {
-        Some(window) => window,
-        None => return false,
-    };
-    match execute(core, port, window) {
+    match execute(core, port, Window { bytes, left: 8 }) {
         Some(()) => true,
         None => false,
     }
@@ -238,8 +236,12 @@ pub fn run<P: Port>(core: &mut Core, port: &mut P, most: u64) -> u64
     ensures since { (start : P) → P.since start port.old → P.since start port.new }
 {
     let mut steps = 0;
+    let mut code = Code::none(port);
     while steps < most {
-        if !step(core, port) {
+        let Some(bytes) = look_at_pc(core, port, &mut code) else {
+            return steps;
+        };
+        if !step(core, port, bytes) {
             return steps;
         }
         steps += 1;
